@@ -17,7 +17,7 @@ use Rattle.dali_events.specs.Happens.{sent_by, told_sent, told_destroyed, gives_
 use Rattle.dali_events.specs.{Happens.{gear_interrupted, after_quiet}, Plan.Plan, Promise.{HoldsShort, KeepsPromiseNow, KeepsAddresses}, Runs.after}
 use Rattle.dali_events.specs.{Runs.{after_all, AllAllowed, IsRun, LeavesUsed}, Searching.EachPowered, Telling.{Happening, rightly, as_damaged, as_told}}
 use Rattle.dali_events.specs.{Telling.{happened, MayHappen, happened_all, AllMayHappen, after_happened, all_told, IsHistory}, World.{World, Controller, nobody}}
-use Rattle.dali_events.{specs.{World.{controller_at, controllers_changed, start}, declared.event.Event.Event}, proofs.Invariant.Growing.leaves_front}
+use Rattle.dali_events.{specs.{World.{controller_at, controllers_changed, start}, declared.event.Event.Event}, proofs.Invariant.Growing.all_front}
 use Rattle.dali_events.proofs.Invariant.{Safe.keeps_promise, Sending.{follows_of, takes_powered}}
 use Rattle.dali_script.specs.declared.orders.Input.TheVariants as input
 use Rattle.dali_events.specs.declared.event.Event.TheVariants as event
@@ -500,7 +500,7 @@ history_front : (p : Plan) (capacity : ℕ) (xs ys : List Happening) → IsHisto
 history_front p capacity xs ys history = record {
   plan = history.plan;
   may = may_front (start p capacity) xs ys history.may;
-  leaves = leaves_front p.used (all_told xs) (all_told ys) (subst (λ es. AllByRecursion (LeavesUsed p.used) es) (told_both xs ys) history.leaves);
+  leaves = all_front (LeavesUsed p.used) (all_told xs) (all_told ys) (subst (λ es. AllByRecursion (LeavesUsed p.used) es) (told_both xs ys) history.leaves);
 }
 
 keeps_there : (b d : Bool) (v w : World) (gs hs : List Gear) → Alike b v.gear gs → Alike d w.gear hs → KeepsAddresses v w

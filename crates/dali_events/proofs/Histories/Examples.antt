@@ -130,8 +130,7 @@ given_up = refl
 abbrev colliding : List Event
 colliding = event.Acted 0 input.Start (Put 3 terminate) ∷ event.Acted 1 input.Start (Put 3 terminate) ∷ event.Collided 0 terminate 1 terminate ∷ []
 
-collided_told : ((controller_at (after_all site colliding) 1).told ≡ Some input.Destroyed)
-    × ((after_all site colliding).bus ≡ idle 8)
+collided_told : ((controller_at (after_all site colliding) 1).told ≡ Some input.Destroyed) × ((after_all site colliding).bus ≡ idle 8)
 unfolding command_of
 collided_told = (refl, refl)
 

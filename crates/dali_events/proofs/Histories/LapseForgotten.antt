@@ -137,8 +137,7 @@ allowed =
     )
 
 -- the gear was given address 4 at 123456, and then has another random address
-given : ((after_on site giving).world.gifts ≡ (0, 4) ∷ [])
-    × ((after_on site (giving ++ going_on)).world.drawn ≡ (0, 0x123456) ∷ (0, 0x0ABCDE) ∷ [])
+given : ((after_on site giving).world.gifts ≡ (0, 4) ∷ []) × ((after_on site (giving ++ going_on)).world.drawn ≡ (0, 0x123456) ∷ (0, 0x0ABCDE) ∷ [])
 unfolding command_of stage_of
 given = (refl, refl)
 

@@ -21,8 +21,7 @@ twice_drawn = record { gear = 2; blocks = first_block ∷ []; draws = 0x123456 �
 abbrev giving_two : List Event
 giving_two = opening 0 ++ visit 0 (input.Heard Silence) at_123456 0
 
-twice_drawn_allowed : (AllAllowed (start twice_drawn 8) giving_two)
-    × ((after twice_drawn 8 giving_two).gifts ≡ (0, 0) ∷ (1, 0) ∷ [])
+twice_drawn_allowed : (AllAllowed (start twice_drawn 8) giving_two) × ((after twice_drawn 8 giving_two).gifts ≡ (0, 0) ∷ (1, 0) ∷ [])
 unfolding command_of stage_of
 twice_drawn_allowed = (all_allowed_by (start twice_drawn 8) giving_two refl, refl)
 
@@ -40,8 +39,7 @@ overlapping = record { gear = 2; blocks = first_block ∷ first_block ∷ []; dr
 abbrev giving_each : List Event
 giving_each = giving_two ++ (event.Lapsed ∷ visit 1 input.Start at_0abcde 0)
 
-overlapping_allowed : (AllAllowed (start overlapping 8) giving_each)
-    × ((after overlapping 8 giving_each).gifts ≡ (0, 0) ∷ (1, 0) ∷ [])
+overlapping_allowed : (AllAllowed (start overlapping 8) giving_each) × ((after overlapping 8 giving_each).gifts ≡ (0, 0) ∷ (1, 0) ∷ [])
 unfolding command_of stage_of
 overlapping_allowed = (all_allowed_by (start overlapping 8) giving_each refl, refl)
 

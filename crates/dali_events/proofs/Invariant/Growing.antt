@@ -33,9 +33,9 @@ pub leaves_more : (us : List Used) (es : List Event) (e : Event) → AllByRecurs
 leaves_more us [] e all here = (here, tt)
 leaves_more us (f ∷ es) e all here = (all.0, leaves_more us es e all.1 here)
 
-pub leaves_front : (us : List Used) (es fs : List Event) → AllByRecursion (LeavesUsed us) (es ++ fs) → AllByRecursion (LeavesUsed us) es
-leaves_front us [] fs all = tt
-leaves_front us (e ∷ es) fs all = (all.0, leaves_front us es fs all.1)
+pub all_front : (P : Event → Type 0) (es fs : List Event) → AllByRecursion P (es ++ fs) → AllByRecursion P es
+all_front P [] fs all = tt
+all_front P (e ∷ es) fs all = (all.0, all_front P es fs all.1)
 
 pub leaves_rest : (us : List Used) (es fs : List Event) → AllByRecursion (LeavesUsed us) (es ++ fs) → AllByRecursion (LeavesUsed us) fs
 leaves_rest us [] fs all = all

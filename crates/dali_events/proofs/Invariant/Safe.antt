@@ -14,7 +14,7 @@ use Rattle.dali_events.specs.{Promise.{KeepsPromiseFrom, KeepsPromise, Names, Is
 use Rattle.dali_events.specs.{Runs.{AllAllowed, IsRun, LeavesUsed}, World.{World, gear_at, controller_at, start, gear_changed}, declared.event.Event.Event}
 use Rattle.dali_events.{specs.declared.used.Used.Used, proofs.Invariant.{Arrived.gifts_start, Controllers.controllers_count, Drawn.{Draws, HasDrawn}}}
 use Rattle.dali_events.proofs.Invariant.{Drawn.{draws_step, draws_start, are_drawn}, Gifts.{Gifts, IsOwned, Change, SameAddresses, no_change, frame_changes}}
-use Rattle.dali_events.proofs.Invariant.{Gifts.{gifts_step, gift_stays, one_holder}, Growing.{after_both, allowed_front, allowed_rest, leaves_front}}
+use Rattle.dali_events.proofs.Invariant.{Gifts.{gifts_step, gift_stays, one_holder}, Growing.{after_both, allowed_front, allowed_rest, all_front}}
 use Rattle.dali_events.proofs.Invariant.{Growing.leaves_rest, Keeping.{AllKeep, AreShort, keeping_step, keeps_start, records_of}, Sending.{IsKnown, known_step}}
 use Rattle.dali_events.proofs.{Invariant.Sending.known_start, Page.{Bridge.{Next, found_told}, Frames.{stores_reserved, found_gear}, Runs.{Leads, each_event}}}
 use Rattle.dali_events.proofs.Page.{Runs.{begins, leads_on, leads_to, safe_so, gear_then, seen_both, to_page, from_page}, Sites.apart_seen}
@@ -261,14 +261,14 @@ module _ (p : Plan) (plan : IsPlan p) (w : World) (first : Holds p w) where
   front_holds : (es more log : List Event) → es ++ more ≡ log → AllAllowed w log → AllByRecursion (LeavesUsed p.used) log → Holds p (after_all w es)
   front_holds es more log e all leave =
       holds_all p plan w es (allowed_front w es more (subst (AllAllowed w) (sym e) all))
-      (leaves_front p.used es more (subst (AllByRecursion (LeavesUsed p.used)) (sym e) leave)) first
+      (all_front (LeavesUsed p.used) es more (subst (AllByRecursion (LeavesUsed p.used)) (sym e) leave)) first
 
   since : (earlier later rest : List Event) → AllAllowed w (earlier ++ (later ++ rest)) → AllByRecursion (LeavesUsed p.used) (earlier ++ (later ++ rest))
       → KeepsGifts (after_all w earlier) (after_all w (earlier ++ later))
   since earlier later rest all leave =
       let allowed : AllAllowed (after_all w earlier) later =
       allowed_front (after_all w earlier) later rest (allowed_rest w earlier (later ++ rest) all) in
-      let leaves : AllByRecursion (LeavesUsed p.used) later = leaves_front p.used later rest (leaves_rest p.used earlier (later ++ rest) leave) in
+      let leaves : AllByRecursion (LeavesUsed p.used) later = all_front (LeavesUsed p.used) later rest (leaves_rest p.used earlier (later ++ rest) leave) in
       subst (λ v. KeepsGifts (after_all w earlier) v) (sym (after_both w earlier later))
       (keeps_all p plan (after_all w earlier) later allowed leaves
       (front_holds earlier (later ++ rest) (earlier ++ (later ++ rest)) refl all leave))
@@ -321,7 +321,7 @@ pub run_front : (p : Plan) (capacity : ℕ) (front rest : List Event) → IsRun 
 run_front p capacity front rest run = record {
   plan = run.plan;
   allowed = allowed_front (start p capacity) front rest run.allowed;
-  leaves = leaves_front p.used front rest run.leaves;
+  leaves = all_front (LeavesUsed p.used) front rest run.leaves;
 }
 
 pub safe_history : (p : Plan) (capacity : ℕ) (log : List Event) → IsRun p capacity log → IsSafeHistory p capacity log
@@ -337,7 +337,7 @@ unfolding holds_start
 every_run_is_a_history p capacity front rest run =
     let begun = holds_start p run.plan capacity in
     let all = allowed_front (start p capacity) front rest run.allowed in
-    let leave = leaves_front p.used front rest run.leaves in
+    let leave = all_front (LeavesUsed p.used) front rest run.leaves in
     let k = holds_all p run.plan (start p capacity) front all leave begun in
     let first = moments_all p run.plan (start p capacity) front all leave begun in
     let allowed = allowed_rest (start p capacity) front rest run.allowed in

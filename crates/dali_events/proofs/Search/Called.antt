@@ -151,7 +151,7 @@ record Is (w : World) (g : ℕ) : Type 0 where
   pub woken : IsWoken (stage_of w.trace)
   pub at : Each fresh (There (stage_of w.trace) g) w.gear
 
-running_owned : (w : World) (c : ℕ) → w.bus.owner ≡ Some c → trace_running w c ≡ w.trace
+pub running_owned : (w : World) (c : ℕ) → w.bus.owner ≡ Some c → trace_running w c ≡ w.trace
 running_owned w c e = rw (e, self c) refl where
   self : (n : ℕ) → (n == n) ≡ true
   self n = grind (arith, nat_tests)

@@ -1,5 +1,5 @@
-use Rattle.std.proofs.Common.{◌≡◌, ℕ, ◌⊎◌, inl, inr, true, List, [], ◌∷◌, ◌++◌, refl, sym, ap, subst, ◌∙◌, arith, append_assoc, append-nil, Some, None, ◌==◌}
-use Rattle.std.{proofs.lemmas.Bool.Decides.nat_tests, specs.List.AllByRecursion}
+use Rattle.std.proofs.Common.{◌≡◌, ℕ, ◌⊎◌, inl, inr, List, [], ◌∷◌, ◌++◌, refl, sym, ap, subst, ◌∙◌, append_assoc, append-nil, Some, None}
+use Rattle.std.{specs.List.AllByRecursion}
 use Rattle.dali_frame.specs.{Random.{value_of, MASK24}, declared.{frames.Answer.{Answer, TheVariants.Silence}, numbers.SearchAddress.SearchAddress}}
 use Rattle.dali_special.specs.{Command.command_of, declared.command.Command.TheVariants.{Terminate, Initialise, Compare, SearchHigh, SearchMiddle, SearchLow}}
 use Rattle.dali_special.specs.declared.command.Target.TheVariants.{Unaddressed}
@@ -7,7 +7,7 @@ use Rattle.dali_script.specs.{Scripts.IsFront, Stages.stage_of, declared.{orders
 use Rattle.dali_script.specs.declared.{stage.Stage.TheVariants.{InitialisedOnce, Initialised, WokenHigh, WokenLow, Hunted}, trace.Entry.Entry}
 use Rattle.dali_events.specs.{Calling.{Runs, RunsOn, Calls, Orders, HasCalled, roll_call}, Happens.{happens, trace_running}, Plan.Plan, Runs.{after, after_all}}
 use Rattle.dali_events.{specs.{Runs.IsRun, Searching.sent_event, World.{World, start}, declared.event.Event.Event}, proofs.Invariant.Growing.after_both}
-use Rattle.dali_events.proofs.{Invariant.Growing.{allowed_front, leaves_front}, Search.{Called.called, Traced.{IsAmong, traced, runs_part}}}
+use Rattle.dali_events.proofs.{Invariant.{Growing.all_front, Safe.run_front}, Search.{Called.{called, running_owned}, Traced.{IsAmong, traced, runs_part}}}
 use Rattle.dali_events.specs.declared.event.Event.TheVariants as event
 
 -- THE ROLL WAS CALLED, AND NOBODY WAS HEARD: from the frames of the transaction to the log.
@@ -121,21 +121,9 @@ whole_call n (a ∷ b ∷ c ∷ d ∷ e ∷ f ∷ g ∷ h ∷ t) x k s = elim k.
 
 -- ---------------------------------------------------------------- in a log
 
-run_front : (p : Plan) (capacity : ℕ) (es fs : List Event) → IsRun p capacity (es ++ fs) → IsRun p capacity es
-run_front p capacity es fs run = record {
-  plan = run.plan;
-  allowed = allowed_front (start p capacity) es fs run.allowed;
-  leaves = leaves_front p.used es fs run.leaves;
-}
-
 runs_both : (w : World) (c : ℕ) (es fs : List Event) → RunsOn w c es → RunsOn (after_all w es) c fs → RunsOn w c (es ++ fs)
 runs_both w c [] fs one two = two
 runs_both w c (e ∷ es) fs one two = (one.0, runs_both (happens w e) c es fs one.1 two)
-
-running_owned : (w : World) (c : ℕ) → w.bus.owner ≡ Some c → trace_running w c ≡ w.trace
-running_owned w c e = rw (e, self c) refl where
-  self : (n : ℕ) → (n == n) ≡ true
-  self n = grind (arith, nat_tests)
 
 -- the stage of what runs, where that is more than nothing
 runs_at : (w : World) (c : ℕ) (pre : List Entry) (x : Entry) (post : List Entry) (s : Stage) → trace_running w c ≡ pre ++ x ∷ post
@@ -349,8 +337,7 @@ called_all p capacity P log (e ∷ es) c all is =
 
 -- of events that all give such orders the first do
 pub orders_front : (P : Order → Type 0) (c : ℕ) (es fs : List Event) → AllByRecursion (Orders P c) (es ++ fs) → AllByRecursion (Orders P c) es
-orders_front P c [] fs all = tt
-orders_front P c (e ∷ es) fs all = (all.0, orders_front P c es fs all.1)
+orders_front P c es fs all = all_front (Orders P c) es fs all
 
 -- ---------------------------------------------------------------- where a frame stands
 
@@ -391,10 +378,6 @@ last_of P [] e [] x rest is all = inl (cc)
 last_of P [] e (y ∷ front) x rest is all = absurd (no_more front x rest cc)
 last_of P (z ∷ es) e [] x rest is all = inr (all_last P es e (subst (λ l. AllByRecursion P l) (let tail : rest ≡ es ++ e ∷ [] = cc in tail) all))
 last_of P (z ∷ es) e (y ∷ front) x rest is all = let tail : es ++ e ∷ [] ≡ front ++ x ∷ rest = cc in last_of P es e front x rest tail all
-
-all_front : (P : Event → Type 0) (es fs : List Event) → AllByRecursion P (es ++ fs) → AllByRecursion P es
-all_front P [] fs all = tt
-all_front P (e ∷ es) fs all = (all.0, all_front P es fs all.1)
 
 -- a frame behind which c took no step stands behind each step of c
 pub sent_behind : (c : ℕ) (earlier : List Event) (i : Input) (o : Order) (later front : List Event) (x : Entry) (rest : List Event)
