@@ -7,7 +7,8 @@ use Rattle.dali_script.specs.{Scripts.IsFront, Stages.stage_of, declared.{orders
 use Rattle.dali_script.specs.declared.{stage.Stage.TheVariants.{InitialisedOnce, Initialised, WokenHigh, WokenLow, Hunted}, trace.Entry.Entry}
 use Rattle.dali_events.specs.{Calling.{Runs, RunsOn, Calls, Orders, HasCalled, roll_call}, Happens.{happens, trace_running}, Plan.Plan, Runs.{after, after_all}}
 use Rattle.dali_events.{specs.{Runs.IsRun, Searching.sent_event, World.{World, start}, declared.event.Event.Event}, proofs.Invariant.Growing.after_both}
-use Rattle.dali_events.proofs.{Invariant.{Growing.all_front, Safe.run_front}, Search.{Called.{called, running_owned}, Traced.{IsAmong, traced, runs_part}}}
+use Rattle.dali_events.proofs.Invariant.{Growing.{all_front, all_more}, Safe.run_front}
+use Rattle.dali_events.proofs.Search.{Called.{called, running_owned}, Traced.{IsAmong, traced, runs_part}}
 use Rattle.dali_events.specs.declared.event.Event.TheVariants as event
 
 -- THE ROLL WAS CALLED, AND NOBODY WAS HEARD: from the frames of the transaction to the log.
@@ -291,8 +292,7 @@ module _ (p : Plan) (capacity : ℕ) (P : Order → Type 0) (c : ℕ) (n : Searc
 
 pub orders_more : (P : Order → Type 0) (c : ℕ) (es : List Event) (e : Event) → AllByRecursion (Orders P c) es → Orders P c e
     → AllByRecursion (Orders P c) (es ++ e ∷ [])
-orders_more P c [] e all here = (here, tt)
-orders_more P c (f ∷ es) e all here = (all.0, orders_more P c es e all.1 here)
+orders_more P c es e all here = all_more (Orders P c) es e all here
 
 -- whoever gives no order gives such orders alone
 pub orders_none : (P : Order → Type 0) (c : ℕ) (e : Event) → Orders (λ o. ⊥) c e → Orders P c e
