@@ -1,5 +1,5 @@
 use Rattle.std.proofs.Common.{◌≡◌, ℕ, ◌+◌, ◌*◌, ◌/◌, ◌%◌, Bool, true, false, refl, sym, ap, subst, ◌∙◌, arith, List, [], ◌∷◌, ◌++◌, map, Option, Some, None}
-use Rattle.std.proofs.Common.{◌==◌, ◌&&◌, if◌then◌else◌, option_map, nat_lt}
+use Rattle.std.proofs.Common.{◌==◌, rules, ◌&&◌, if◌then◌else◌, option_map, nat_lt}
 use Rattle.dali_frame.specs.{Random.value_of, Short.short_of, declared.{frames.{Answer.Answer, Forward.Forward}, numbers.SearchAddress.SearchAddress}}
 use Rattle.dali_special.specs.{Command.{command_of, MASK}, declared.command.Command.Command as Read}
 use Rattle.dali_script.specs.{Findings.{search_after, at_power_on, search_from, search_of}, Records.{Assignment, Has}, Scripts.{Step, sends, is_asking}}
@@ -77,48 +77,14 @@ may_program reserved r a high middle low h vacant is =
 module _ (b : Block) (records : List Assignment) (reserved : ℕ → Option ℕ) (same : (a r : ℕ) → Has records (a, r) → reserved a ≡ Some r) where
   each_script : (s : Script) → MaySend b records s → Keeps reserved at_power_on [] (steps s)
   unfolding Keeps
-  each_script Open may = (refl, never, λ h w. (refl, never, λ h w. (refl, never, λ h w. (refl, never, λ h w. (refl, never, λ h w. tt)))))
-  each_script (Call r cs) may = (
-    refl,
-    never,
-    λ h w. (refl, never, λ h w. (refl, never, λ h w. (refl, never, λ h w. (refl, never, λ h w. (refl, never, λ h w. all_asking reserved _ _ cs may.0))))),
-  )
-  each_script (Draw high middle) may = (
-    refl,
-    never,
-    λ h w. (
-      refl,
-      never,
-      λ h w. (refl, never, λ h w. (refl, never, λ h w. (refl, never, λ h w. (refl, never, λ h w. (refl, never, λ h w. (refl, never, λ h w. tt)))))),
-    ),
-  )
-  each_script (Probe r) may = (refl, never, λ h w. (refl, never, λ h w. (refl, never, λ h w. (refl, never, λ h w. tt))))
+  each_script (Call r cs) may =
+      (refl, never, λ h w. (refl, never, λ h w. (refl, never, λ h w. (refl, never, λ h w. (refl, never, λ h w. 
+      (refl, never, λ h w. all_asking reserved _ _ cs may.0))))))
   each_script (Hunt r cs) may = (refl, never, λ h w. (refl, never, λ h w. (refl, never, λ h w. all_asking reserved _ _ cs may.0)))
-  each_script (Look r) may = (refl, never, λ h w. (refl, never, λ h w. (refl, never, λ h w. (refl, λ e. refl, λ h w. (refl, never, λ h w. tt)))))
-  each_script (Give r a) may = (
-    refl,
-    never,
-    λ high w. (
-      refl,
-      never,
-      λ middle w. (
-        refl,
-        never,
-        λ low w. (
-          refl,
-          λ e. refl,
-          λ h vacant. (
-            may_program reserved r a high middle low h vacant (same a (value_of r) may.reserved_for),
-            never,
-            λ h w. (refl, λ e. refl, λ h w. (refl, never, λ h w. tt)),
-          ),
-        ),
-      ),
-    ),
-  )
-  each_script (PassOver r) may = (refl, never, λ h w. (refl, never, λ h w. (refl, never, λ h w. (refl, never, λ h w. tt))))
-  each_script (Resolve a) may = (refl, never, λ h w. (refl, never, λ h w. (refl, never, λ h w. tt)))
-  each_script _ may = (refl, never, λ h w. tt)
+  each_script (Give r a) may = (refl, never, λ high w. (refl, never, λ middle w. (refl, never, λ low w. (refl, λ e. refl, λ h vacant. (
+      may_program reserved r a high middle low h vacant (same a (value_of r) may.reserved_for), never, λ h w. (refl, λ e. refl, λ h w. (
+      refl, never, λ h w. tt)))))))
+  each_script _ may = search rules
 
 -- ---------------------------------------------------------------- the laws
 

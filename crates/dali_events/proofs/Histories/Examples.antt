@@ -7,6 +7,7 @@ use Rattle.dali_script.specs.{Scripts.{Open, Look}, Stages.stage_of, declared.{f
 use Rattle.dali_script.specs.declared.records.Record.TheVariants.{Reserve, Release}
 use Rattle.dali_events.specs.{Happens.happens, Plan.Plan, Runs.{after_all, AllAllowed}, World.{World, gear_at, controller_at, controller_begun, start}}
 use Rattle.dali_events.{specs.declared.event.Event.Event, proofs.Histories.Openings.{first_block, second_block, at_123456}}
+use Rattle.dali_events.proofs.{Histories.Tested.all_allowed_by, Invariant.Growing.allowed_more}
 use Rattle.dali_script.specs.declared.orders.Input.TheVariants as input
 use Rattle.dali_events.specs.declared.event.Event.TheVariants as event
 
@@ -160,13 +161,7 @@ gone = refl
 -- 14. a run: the first frames of an opening are allowed, one after the other
 opening_is_allowed : AllAllowed site begun_opening
 unfolding command_of stage_of
-opening_is_allowed = (
-  record { up = record { known = lit< tt; up = refl }; due = refl; order = inl (refl, (first_block, [], (Open, tt, refl))) },
-  (
-    record { up = record { known = lit< tt; up = refl }; may = inr (refl, (first_block, [], (Open, tt, refl))); draws = lit≤ tt; heard = tt },
-    (record { up = record { known = lit< tt; up = refl }; due = refl; order = inr (refl, refl, (Open, tt, (refl, tt, refl))) }, tt),
-  ),
-)
+opening_is_allowed = all_allowed_by site begun_opening refl
 
 -- 15. a release takes its reservation away when it is kept; until that is known the reservation stands
 abbrev releasing : List Event
@@ -188,30 +183,13 @@ reserving_site = record found_site {
 release_is_allowed : AllAllowed reserving_site (looking ++ event.Sent 0 query (Byte 0x09)
     ∷ event.Acted 0 (input.Heard (Byte 0x09)) (Commit (Release 0 0x123456)) ∷ [])
 unfolding command_of stage_of
-release_is_allowed = (
-  record { up = record { known = lit< tt; up = refl }; may = inr (refl, (first_block, [], (Look at_123456, tt, refl))); draws = lit≤ tt; heard = tt },
-  (
-    record { up = record { known = lit< tt; up = refl }; may = inl (refl, (Look at_123456, tt, (refl, tt, refl))); draws = lit≤ tt; heard = tt },
-    (
-      record { up = record { known = lit< tt; up = refl }; may = inl (refl, (Look at_123456, tt, (refl, tt, (refl, tt, refl)))); draws = lit≤ tt; heard = tt },
-      (
-        record {
-          up = record { known = lit< tt; up = refl };
-          may = inl (refl, (Look at_123456, tt, (refl, tt, (refl, tt, (refl, tt, refl)))));
-          draws = lit≤ tt;
-          heard = (λ e. cc, (refl, tt));
-        },
-        (
-          record {
-            up = record { known = lit< tt; up = refl };
-            due = refl;
-            order = (refl, (inl refl, (Queried 4 0x123456, refl, 4, refl, λ e. apart 4 0 refl refl e)));
-          },
-          tt,
-        ),
-      ),
-    ),
-  ),
-) where
+release_is_allowed =
+    allowed_more reserving_site (looking ++ event.Sent 0 query (Byte 0x09) ∷ []) (event.Acted 0 (input.Heard (Byte 0x09)) (Commit (Release 0 0x123456)))
+    (all_allowed_by reserving_site (looking ++ event.Sent 0 query (Byte 0x09) ∷ []) refl) (record {
+      up = record { known = lit< tt; up = refl };
+      due = refl;
+      order = (refl, (inl refl, (Queried 4 0x123456, refl, 4, refl, λ e. apart 4 0 refl refl e)));
+    })
+  where
   apart : (n m : ℕ) → n ≡ 4 → m ≡ 0 → n ≡ m → ⊥
   apart n m four zero same = omega arith
