@@ -1,7 +1,7 @@
-use Rattle.std.proofs.Common.{◌≡◌, ◌⊎◌, inl, inr, ℕ, true, false, sym, ap, subst, List, [], ◌∷◌, ◌++◌, map, Some}
+use Rattle.std.proofs.Common.{rules, ◌≡◌, ◌⊎◌, inl, inr, ℕ, true, false, sym, ap, subst, List, [], ◌∷◌, ◌++◌, map, Some}
 use Rattle.dali_frame.specs.{Random.value_of, declared.frames.{Answer.Answer, Forward.Forward}}
 use Rattle.dali_special.specs.{Command.command_of, declared.command.Command.Command as Read}
-use Rattle.dali_script.specs.Scripts.{Step, sends, is_asking, AreAsking, Script, Call, Draw, Probe, Hunt, Give, PassOver, Resolve, Close, ArcPower}
+use Rattle.dali_script.specs.Scripts.{Step, sends, is_asking, AreAsking, Script, Call, Hunt, Give}
 use Rattle.dali_script.specs.{Scripts.{steps, MaySend, IsFront, Lawful}, Records.{Assignment, Has}, declared.{block.Block.Block, trace.Entry.Entry}}
 use Rattle.dali_script.proofs.Members.{has_either}
 use Rattle.dali_statement.{specs.Own.{Own, Act, Puts, Loses, Keeps, own_after, own_all, AreOwn}, proofs.Own.filtered}
@@ -38,15 +38,9 @@ all_asking reserved (c ∷ cs) are = (asking reserved c are.0, all_asking reserv
 
 each_script : (b : Block) (reserved : List Assignment) (s : Script) → MaySend b reserved s → AreReserved reserved (steps s)
 each_script b reserved (Call r cs) may = (tt, (tt, (tt, (tt, (tt, (tt, all_asking reserved cs may.0))))))
-each_script b reserved (Draw high middle) may = (tt, (tt, (tt, (tt, (tt, (tt, (tt, (tt, tt))))))))
-each_script b reserved (Probe r) may = (tt, (tt, (tt, (tt, tt))))
 each_script b reserved (Hunt r cs) may = (tt, (tt, (tt, all_asking reserved cs may.0)))
 each_script b reserved (Give r a) may = (tt, (tt, (tt, (tt, ((value_of r, may.reserved_for), (tt, (tt, tt)))))))
-each_script b reserved (PassOver r) may = (tt, (tt, (tt, (tt, tt))))
-each_script b reserved (Resolve a) may = (tt, (tt, (tt, tt)))
-each_script b reserved Close may = (tt, tt)
-each_script b reserved (ArcPower f) may = (tt, tt)
-each_script b reserved _ may = (tt, (tt, (tt, (tt, (tt, tt)))))
+each_script b reserved _ may = search rules
 
 given_reserved : (b : Block) (reserved : List Assignment) (t : List Entry) (f : Forward) (a : ℕ) → Lawful b reserved t f
     → command_of f ≡ read.Program (Some a) → (r : ℕ) × Has reserved (a, r)

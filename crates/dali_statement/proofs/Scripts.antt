@@ -3,7 +3,7 @@ use Rattle.std.proofs.Common.{◌==◌, rules, ◌&&◌, if◌then◌else◌, op
 use Rattle.dali_frame.specs.{Random.value_of, Short.short_of, declared.{frames.{Answer.Answer, Forward.Forward}, numbers.SearchAddress.SearchAddress}}
 use Rattle.dali_special.specs.{Command.{command_of, MASK}, declared.command.Command.Command as Read}
 use Rattle.dali_script.specs.{Findings.{search_after, at_power_on, search_from, search_of}, Records.{Assignment, Has}, Scripts.{Step, sends, is_asking}}
-use Rattle.dali_script.specs.Scripts.{AreAsking, Script, Open, Call, Draw, Probe, Hunt, Look, Give, PassOver, Resolve, steps, IsHeard, MaySend}
+use Rattle.dali_script.specs.Scripts.{AreAsking, Script, Call, Hunt, Give, steps, IsHeard, MaySend}
 use Rattle.dali_script.specs.{Scripts.{IsFront, Lawful}, declared.{block.Block.Block, trace.Entry.Entry}}
 use Rattle.dali_statement.{proofs.{Tests.{both, first_of_both, equal, equals, holds_by, some_is}, One.{may_longer, tells_longer}}, specs.Gear.command_seen}
 use Rattle.dali_statement.specs.Page.{Part, High, Middle, Low, byte, Command, Search, QueryShort, code, holds, Heard, Byte, Site, number_sent, is_vacant, tells}

@@ -1,9 +1,9 @@
-use Rattle.std.proofs.Common.{◌≡◌, ℕ, true, false, List, [], ◌∷◌, ◌++◌, Some, None, refl, inl, inr, lit<, lit≤, arith}
+use Rattle.std.proofs.Common.{◌≡◌, ℕ, true, false, List, [], ◌∷◌, ◌++◌, Some, None, refl, inl, lit<, arith}
 use Rattle.dali_frame.specs.declared.frames.{Answer.TheVariants.{Silence, Byte}, Forward.Forward}
 use Rattle.dali_special.specs.{Command.{command_of, frame}, declared.command.Command.TheVariants.Randomise}
 use Rattle.dali_gear.specs.{Gear.{Gear, search_mask}, declared.state.InitialisationState.TheVariants.{Disabled, Enabled}}
 use Rattle.dali_arbiter.specs.Arbiter.{request_of, idle}
-use Rattle.dali_script.specs.{Scripts.{Open, Look}, Stages.stage_of, declared.{finding.Finding.TheVariants.Queried, orders.Order.TheVariants.{Put, Commit}}}
+use Rattle.dali_script.specs.{Stages.stage_of, declared.{finding.Finding.TheVariants.Queried, orders.Order.TheVariants.{Put, Commit}}}
 use Rattle.dali_script.specs.declared.records.Record.TheVariants.{Reserve, Release}
 use Rattle.dali_events.specs.{Happens.happens, Plan.Plan, Runs.{after_all, AllAllowed}, World.{World, gear_at, controller_at, controller_begun, start}}
 use Rattle.dali_events.{specs.declared.event.Event.Event, proofs.Histories.Openings.{first_block, second_block, at_123456}}

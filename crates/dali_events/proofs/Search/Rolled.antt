@@ -8,7 +8,7 @@ use Rattle.dali_script.specs.declared.{stage.Stage.TheVariants.{InitialisedOnce,
 use Rattle.dali_events.specs.{Calling.{Runs, RunsOn, Calls, Orders, HasCalled, roll_call}, Happens.{happens, trace_running}, Plan.Plan, Runs.{after, after_all}}
 use Rattle.dali_events.{specs.{Runs.IsRun, Searching.sent_event, World.{World, start}, declared.event.Event.Event}, proofs.Invariant.Growing.after_both}
 use Rattle.dali_events.proofs.Invariant.{Growing.{all_front, all_more}, Safe.run_front}
-use Rattle.dali_events.proofs.Search.{Called.{called, running_owned}, Traced.{IsAmong, traced, runs_part}}
+use Rattle.dali_events.proofs.Search.{Called.{called, running_owned}, Traced.{IsAmong, traced, runs_part, no_part}}
 use Rattle.dali_events.specs.declared.event.Event.TheVariants as event
 
 -- THE ROLL WAS CALLED, AND NOBODY WAS HEARD: from the frames of the transaction to the log.
@@ -341,10 +341,6 @@ orders_front P c es fs all = all_front (Orders P c) es fs all
 
 -- ---------------------------------------------------------------- where a frame stands
 
-no_more : (es : List Event) (e : Event) (fs : List Event) → [] ≡ es ++ e ∷ fs → ⊥
-no_more [] e fs is = cc
-no_more (x ∷ es) e fs is = cc
-
 -- one event of a log stands in its front, or behind it
 abbrev pub IsBehind : List Event → List Event → List Event → Event → List Event → Type 0
 IsBehind es fs front e rest = (mid : List Event) × (front ≡ es ++ mid) × (fs ≡ mid ++ e ∷ rest)
@@ -375,7 +371,7 @@ all_last P (x ∷ es) e all = all_last P es e all.1
 last_of : (P : Event → Type 0) (es : List Event) (e : Event) (front : List Event) (x : Event) (rest : List Event) → es ++ e ∷ [] ≡ front ++ x ∷ rest
     → AllByRecursion P rest → (e ≡ x) ⊎ P e
 last_of P [] e [] x rest is all = inl (cc)
-last_of P [] e (y ∷ front) x rest is all = absurd (no_more front x rest cc)
+last_of P [] e (y ∷ front) x rest is all = absurd (no_part front x rest cc)
 last_of P (z ∷ es) e [] x rest is all = inr (all_last P es e (subst (λ l. AllByRecursion P l) (let tail : rest ≡ es ++ e ∷ [] = cc in tail) all))
 last_of P (z ∷ es) e (y ∷ front) x rest is all = let tail : es ++ e ∷ [] ≡ front ++ x ∷ rest = cc in last_of P es e front x rest tail all
 

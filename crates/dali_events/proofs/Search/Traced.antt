@@ -14,7 +14,7 @@ use Rattle.dali_events.specs.declared.event.Event.TheVariants as event
 abbrev IsPart : List Entry → Entry → List Entry → Type 0
 IsPart t x pre = (post : List Entry) × (t ≡ pre ++ x ∷ post)
 
-no_part : (pre : List Entry) (x : Entry) (post : List Entry) → [] ≡ pre ++ x ∷ post → ⊥
+pub no_part : {A : Type 0} (pre : List A) (x : A) (post : List A) → [] ≡ pre ++ x ∷ post → ⊥
 no_part [] x post e = cc
 no_part (y ∷ pre) x post e = cc
 
