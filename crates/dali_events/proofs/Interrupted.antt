@@ -12,14 +12,12 @@ taken_one (Other h) f r g foreign = refl
 taken_one _ f r g foreign = absurd (cc)
 
 no_draw : (t : Bool) (c : Command) (f : Forward) (g : Gear) → is_foreign_as c f ≡ true → (t && draws_a_number c g) ≡ false
-no_draw false c f g foreign = refl
 no_draw true Randomise f g foreign = absurd (cc)
-no_draw true _ f g foreign = refl
+no_draw _ _ f g foreign = refl
 
 not_stored : (t : Bool) (c : Command) (f : Forward) (g : Gear) → is_foreign_as c f ≡ true → (if t then stored_short c g else None) ≡ None
-not_stored false c f g foreign = refl
 not_stored true (Program short) f g foreign = absurd (cc)
-not_stored true _ f g foreign = refl
+not_stored _ _ f g foreign = refl
 
 one_interrupted : (c : Command) (f : Forward) (k : ℕ) (g : Gear) (left : List ℕ) → is_foreign_as c f ≡ true
     → one_after (takes Everyone k g) c left g ≡ gear_interrupted g
@@ -57,8 +55,7 @@ stored_by c f k [] foreign = refl
 stored_by c f k (g ∷ gs) foreign =
     ap (λ s. stored_one k s (stored_of Everyone c (k + 1) gs)) (not_stored (takes Everyone k g) c f g foreign) ∙ stored_by c f (k + 1) gs foreign
 
-pub row : (f : Forward) (gs : List Gear) (left : List ℕ) → is_foreign f ≡ true
-    → row_after Everyone (command_of f) 0 gs left ≡ map gear_interrupted gs
+pub row : (f : Forward) (gs : List Gear) (left : List ℕ) → is_foreign f ≡ true → row_after Everyone (command_of f) 0 gs left ≡ map gear_interrupted gs
 row f gs left foreign = row_by (command_of f) f 0 gs left foreign
 
 pub draws : (f : Forward) (gs : List Gear) → is_foreign f ≡ true → draws_needed Everyone (command_of f) 0 gs ≡ 0

@@ -3,8 +3,7 @@ use Rattle.std.{proofs.{Common.{inr, arith, ◌==◌, ◌||◌, nat_lt, nat_le, 
 use Rattle.dali_frame.specs.Random.{MASK24}
 use Rattle.dali_script.{specs.Records.{Has, IsOnce, InBlock}, proofs.{Lists.{few, has_at, has_map}, Members.{mapped_from, once_append}}}
 use Rattle.dali_events.specs.Plan.{any_pair, is_misordered, overlap, refusal_of, block_of, plan_of, no_block, Plan, AreUsed, IsPlan, used_refusal_of, plan_with}
-use Rattle.dali_events.specs.declared.plan.PlanError.TheVariants.{GearCount, ControllerCount, BlockOrder, BlockOverlap, DrawTooLarge, DrawTwice, UnknownGear}
-use Rattle.dali_events.specs.declared.{plan.PlanError.TheVariants.{GearTwice, ShortTwice, RandomTooLarge, RandomTwice}, used.Used.Used}
+use Rattle.dali_events.specs.declared.{used.Used.Used}
 
 -- a plan that is not refused fails no test
 pub record IsAccepted (gear : ℕ) (blocks : List (ℕ × ℕ)) (draws : List ℕ) : Type 0 where
@@ -15,21 +14,15 @@ pub record IsAccepted (gear : ℕ) (blocks : List (ℕ × ℕ)) (draws : List �
   pub small : list_any (λ draw. nat_lt 0xFFFFFE draw) draws ≡ false
   pub once : any_pair (λ draw other. draw == other) draws ≡ false
 
-no_cause : (a b c d e f : Bool)
-    → (if a then Some GearCount else if b then Some ControllerCount else if c then Some BlockOrder else if d then Some BlockOverlap
-    else if e then Some DrawTooLarge else if f then Some DrawTwice else None) ≡ None
+no_cause : {A : Type 0} (u v w x y z : A) (a b c d e f : Bool)
+    → (if a then Some u else if b then Some v else if c then Some w else if d then Some x else if e then Some y else if f then Some z else None) ≡ None
     → (a ≡ false) × (b ≡ false) × (c ≡ false) × (d ≡ false) × (e ≡ false) × (f ≡ false)
-no_cause true b c d e f is = absurd (cc)
-no_cause false true c d e f is = absurd (cc)
-no_cause false false true d e f is = absurd (cc)
-no_cause false false false true e f is = absurd (cc)
-no_cause false false false false true f is = absurd (cc)
-no_cause false false false false false true is = absurd (cc)
-no_cause false false false false false false is = (refl, refl, refl, refl, refl, refl)
+no_cause u v w x y z false false false false false false is = (refl, refl, refl, refl, refl, refl)
+no_cause u v w x y z _ _ _ _ _ _ is = absurd (cc)
 
 pub accepted : (gear : ℕ) (blocks : List (ℕ × ℕ)) (draws : List ℕ) → refusal_of gear blocks draws ≡ None → IsAccepted gear blocks draws
 accepted gear blocks draws is =
-    let all = no_cause (nat_lt gear 1 || nat_lt 128 gear) (nat_lt (length blocks) 1 || nat_lt 4 (length blocks)) (list_any is_misordered blocks)
+    let all = no_cause _ _ _ _ _ _ (nat_lt gear 1 || nat_lt 128 gear) (nat_lt (length blocks) 1 || nat_lt 4 (length blocks)) (list_any is_misordered blocks)
     (any_pair overlap blocks) (list_any (λ draw. nat_lt 0xFFFFFE draw) draws) (any_pair (λ draw other. draw == other) draws) is in
     record { gear_count = all.0; controllers = all.1; ordered = all.2; apart = all.3; small = all.4; once = all.5 }
 
@@ -41,7 +34,12 @@ or_false_right : (a b : Bool) → (a || b) ≡ false → b ≡ false
 or_false_right true b is = absurd (cc)
 or_false_right false b is = is
 
--- where no element passes, none at an index does
+-- where no element passes, none that is there does, and none at an index
+no_one : {A : Type 0} (test : A → Bool) (xs : List A) (x : A) → list_any test xs ≡ false → Has xs x → test x ≡ false
+no_one test [] x none has = absurd has
+no_one test (y ∷ xs) x none (inl same) = subst (λ z. test z ≡ false) same (or_false_left (test y) (list_any test xs) none)
+no_one test (y ∷ xs) x none (inr has) = no_one test xs x (or_false_right (test y) (list_any test xs) none) has
+
 pub none_at : {A : Type 0} (test : A → Bool) (xs : List A) (i : ℕ) (d : A) → list_any test xs ≡ false → i < length xs → test (get_or xs i d) ≡ false
 none_at test [] i d none here = absurd (omega arith)
 none_at test (x ∷ xs) zero d none here = or_false_left (test x) (list_any test xs) none
@@ -49,21 +47,18 @@ none_at test (x ∷ xs) (suc i) d none here = none_at test xs i d (or_false_righ
 
 pub no_pair_at : {A : Type 0} (test : A → A → Bool) (xs : List A) (i j : ℕ) (d : A) → any_pair test xs ≡ false → i < j → j < length xs
     → test (get_or xs i d) (get_or xs j d) ≡ false
-no_pair_at test [] i j d none order here = absurd (omega arith)
-no_pair_at test (x ∷ xs) i zero d none order here = absurd (omega arith)
-no_pair_at test (x ∷ xs) zero (suc j) d none order here =
-    none_at (test x) xs j d (or_false_left (list_any (test x) xs) (any_pair test xs) none) (omega arith)
+no_pair_at test (x ∷ xs) zero (suc j) d none order here = none_at (test x) xs j d (or_false_left (list_any (test x) xs) (any_pair test xs) none) (omega arith)
 no_pair_at test (x ∷ xs) (suc i) (suc j) d none order here =
     no_pair_at test xs i j d (or_false_right (list_any (test x) xs) (any_pair test xs) none) (omega arith) (omega arith)
+no_pair_at test _ i _ d none order here = absurd (omega arith)
 
 -- the blocks of a plan, by their bounds
 abbrev no_bounds : ℕ × ℕ
 no_bounds = (1, 0)
 
 block_is : (blocks : List (ℕ × ℕ)) (c : ℕ) → get_or (map block_of blocks) c no_block ≡ block_of (get_or blocks c no_bounds)
-block_is [] c = refl
-block_is (b ∷ blocks) zero = refl
 block_is (b ∷ blocks) (suc c) = block_is blocks c
+block_is _ _ = refl
 
 length_blocks : (blocks : List (ℕ × ℕ)) → length (map block_of blocks) ≡ length blocks
 length_blocks [] = refl
@@ -96,12 +91,10 @@ one_block blocks c d a none c_here d_here first second = go (nat_lt c d) (nat_lt
 
 -- numbers that stand once
 not_among : (draw : ℕ) (draws : List ℕ) → list_any (λ other. draw == other) draws ≡ false → Has draws draw → ⊥
-not_among draw [] none has = has
-not_among draw (other ∷ draws) none (inl same) =
-    let no = or_false_left (draw == other) (list_any (λ o. draw == o) draws) none in
-    let yes : (draw == other) ≡ true = grind (arith, nat_tests) in
+not_among draw draws none has =
+    let no = no_one (λ other. draw == other) draws draw none has in
+    let yes : (draw == draw) ≡ true = grind (arith, nat_tests) in
     cc
-not_among draw (other ∷ draws) none (inr has) = not_among draw draws (or_false_right (draw == other) (list_any (λ o. draw == o) draws) none) has
 
 draws_once : (draws : List ℕ) → any_pair (λ draw other. draw == other) draws ≡ false → IsOnce draws
 draws_once [] none = tt
@@ -111,12 +104,7 @@ draws_once (draw ∷ draws) none = (
 )
 
 draws_below : (draws : List ℕ) (r : ℕ) → list_any (λ draw. nat_lt 0xFFFFFE draw) draws ≡ false → Has draws r → r < MASK24
-draws_below [] r none has = absurd has
-draws_below (draw ∷ draws) r none (inl same) =
-    let no : nat_lt 0xFFFFFE draw ≡ false = or_false_left (nat_lt 0xFFFFFE draw) (list_any (λ d. nat_lt 0xFFFFFE d) draws) none in
-    grind (arith, nat_tests)
-draws_below (draw ∷ draws) r none (inr has) =
-    draws_below draws r (or_false_right (nat_lt 0xFFFFFE draw) (list_any (λ d. nat_lt 0xFFFFFE d) draws) none) has
+draws_below draws r none has = let no : nat_lt 0xFFFFFE r ≡ false = no_one (λ draw. nat_lt 0xFFFFFE draw) draws r none has in grind (arith, nat_tests)
 
 short_block : (b : ℕ × ℕ) (a : ℕ) → is_misordered b ≡ false → InBlock (block_of b) a → a < 64
 short_block b a ordered within =
@@ -185,26 +173,14 @@ few_used p is = subst (λ n. n ≤ p.gear) (length-map p.used (λ u. u.gear)) (f
 
 -- ---------------------------------------------------------------- with used gear
 
-no_used_cause : (a b c d e f : Bool)
-    → (if a then Some UnknownGear else if b then Some GearTwice else if c then Some ShortTwice else if d then Some RandomTooLarge
-    else if e then Some RandomTwice else if f then Some RandomTwice else None) ≡ None
-    → (a ≡ false) × (b ≡ false) × (c ≡ false) × (d ≡ false) × (e ≡ false) × (f ≡ false)
-no_used_cause true b c d e f is = absurd (cc)
-no_used_cause false true c d e f is = absurd (cc)
-no_used_cause false false true d e f is = absurd (cc)
-no_used_cause false false false true e f is = absurd (cc)
-no_used_cause false false false false true f is = absurd (cc)
-no_used_cause false false false false false true is = absurd (cc)
-no_used_cause false false false false false false is = (refl, refl, refl, refl, refl, refl)
-
 -- numbers of used gear that are in no other's stand once
 not_of : (f : Used → ℕ) (n : ℕ) (us : List Used) → list_any (λ v. n == f v) us ≡ false → Has (map f us) n → ⊥
-not_of f n [] none has = has
-not_of f n (v ∷ us) none (inl same) =
-    let no = or_false_left (n == f v) (list_any (λ w. n == f w) us) none in
-    let yes : (n == f v) ≡ true = grind (arith, nat_tests) in
+not_of f n us none has =
+    let k = mapped_from f us n has in
+    let no = no_one (λ v. n == f v) us k.0 none k.1 in
+    let same : f k.0 ≡ n = k.2 in
+    let yes : (n == f k.0) ≡ true = grind (arith, nat_tests) in
     cc
-not_of f n (v ∷ us) none (inr has) = not_of f n us (or_false_right (n == f v) (list_any (λ w. n == f w) us) none) has
 
 once_of : (f : Used → ℕ) (us : List Used) → any_pair (λ u v. f u == f v) us ≡ false → IsOnce (map f us)
 once_of f [] none = tt
@@ -213,12 +189,6 @@ once_of f (u ∷ us) none = (
   once_of f us (or_false_right (list_any (λ v. f u == f v) us) (any_pair (λ v w. f v == f w) us) none),
 )
 
--- a test that no used gear passes, none of theirs does
-no_one : (test : Used → Bool) (us : List Used) (u : Used) → list_any test us ≡ false → Has us u → test u ≡ false
-no_one test [] u none has = absurd has
-no_one test (v ∷ us) u none (inl same) = subst (λ w. test w ≡ false) same (or_false_left (test v) (list_any test us) none)
-no_one test (v ∷ us) u none (inr has) = no_one test us u (or_false_right (test v) (list_any test us) none) has
-
 all_has : (P : Used → Type 0) (us : List Used) (u : Used) → All P us → Has us u → P u
 all_has P [] u all has = elim has [ ]
 all_has P (v ∷ us) u all (inl same) = subst P same (all zero v (omega arith))
@@ -226,7 +196,7 @@ all_has P (v ∷ us) u all (inr has) = all_has P us u (λ k d here. all (suc k) 
 
 pub with_is : (p : Plan) → IsPlan p → (us : List Used) → used_refusal_of p us ≡ None → All (λ u. u.short < 64) us → IsPlan (plan_with p us)
 with_is p plan us is small =
-    let no = no_used_cause (list_any (λ u. nat_le p.gear u.gear) us) (any_pair (λ u v. u.gear == v.gear) us) (any_pair (λ u v. u.short == v.short) us)
+    let no = no_cause _ _ _ _ _ _ (list_any (λ u. nat_le p.gear u.gear) us) (any_pair (λ u v. u.gear == v.gear) us) (any_pair (λ u v. u.short == v.short) us)
     (list_any (λ u. nat_lt 0xFFFFFE u.random) us) (any_pair (λ u v. u.random == v.random) us)
     (list_any (λ u. list_any (λ draw. u.random == draw) p.draws) us) is in
     record {

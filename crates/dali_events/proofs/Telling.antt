@@ -9,7 +9,7 @@ use Rattle.dali_gear.specs.Row.{next_draw, one_after, left_after, row_after, row
 use Rattle.dali_gear.specs.{Row.{stored_one, stored_of}, declared.{gear_set.GearSet.GearSet, row.Reach.{Reach, TheVariants.{Everyone, Only}}}}
 use Rattle.dali_arbiter.specs.Arbiter.{Arbiter, owns, bus_destroyed}
 use Rattle.dali_script.specs.{Findings.{Asked, search_of, asked_of, found_by}, Records.Assignment, Stages.{Follows, next_stage, stage_of}}
-use Rattle.dali_script.specs.declared.{block.Block.Block, orders.Order.{Order, TheVariants.{Put, Commit, Done, Halt}}, stage.Stage.Stage}
+use Rattle.dali_script.specs.declared.{block.Block.Block, orders.Order.{Order, TheVariants.{Put}}, stage.Stage.Stage}
 use Rattle.dali_script.specs.declared.stage.Stage.TheVariants.{Terminated, InitialisedOnce, Initialised, RandomisedOnce, DrawFree, Hunted, HighAsked}
 use Rattle.dali_script.{specs.declared.{stage.Stage.TheVariants.{MiddleAsked, Over}, trace.Entry.Entry}, proofs.Transactions.{stage_none, stage_more, self}}
 use Rattle.dali_events.specs.{Allowed.{Allowed, Hears, IsUp, IsDestroyed, MaySend, MayOrder}, Happens.{happens, trace_running, entry, goes_on, taken_by}}
@@ -17,29 +17,24 @@ use Rattle.dali_events.specs.Happens.{sent_by, told_sent, told_destroyed, gives_
 use Rattle.dali_events.specs.{Happens.{gear_interrupted, after_quiet}, Plan.Plan, Promise.{HoldsShort, KeepsPromiseNow, KeepsAddresses}, Runs.after}
 use Rattle.dali_events.specs.{Runs.{after_all, AllAllowed, IsRun, LeavesUsed}, Searching.EachPowered, Telling.{Happening, rightly, as_damaged, as_told}}
 use Rattle.dali_events.specs.{Telling.{happened, MayHappen, happened_all, AllMayHappen, after_happened, all_told, IsHistory}, World.{World, Controller, nobody}}
-use Rattle.dali_events.{specs.{World.{controller_at, controllers_changed, start}, declared.event.Event.Event}, proofs.Invariant.Growing.leaves_front}
+use Rattle.dali_events.{specs.{World.{controller_at, controllers_changed, start}, declared.event.Event.Event}, proofs.Invariant.Growing.all_front}
 use Rattle.dali_events.proofs.Invariant.{Safe.keeps_promise, Sending.{follows_of, takes_powered}}
 use Rattle.dali_script.specs.declared.orders.Input.TheVariants as input
 use Rattle.dali_events.specs.declared.event.Event.TheVariants as event
 
 -- QUESTIONS: what they leave of gear, whichever gear they reach
 no_draw : (t : Bool) (c : Command) (g : Gear) → is_question c ≡ true → (t && draws_a_number c g) ≡ false
-no_draw false c g asks = refl
 no_draw true Randomise g asks = absurd (cc)
-no_draw true _ g asks = refl
+no_draw _ _ g asks = refl
 
 not_stored : (t : Bool) (c : Command) (g : Gear) → is_question c ≡ true → (if t then stored_short c g else None) ≡ None
-not_stored false c g asks = refl
 not_stored true (Program short) g asks = absurd (cc)
-not_stored true _ g asks = refl
+not_stored _ _ g asks = refl
 
 -- a gear that takes one loses its half pair, and nothing else
 asked_gear : (c : Command) (r : ℕ) (g : Gear) → is_question c ≡ true → gear_taken c r g ≡ record g { half = None }
 asked_gear Compare r g asks = refl
-asked_gear (Verify a) r g asks = refl
-asked_gear QueryShort r g asks = refl
-asked_gear (RandomByte a part) r g asks = refl
-asked_gear _ r g asks = absurd (cc)
+asked_gear _ r g asks = cc
 
 asked_left : (reach : Reach) (c : Command) (k : ℕ) (gs : List Gear) (left : List ℕ) → is_question c ≡ true → row_left reach c k gs left ≡ left
 asked_left reach c k [] left asks = refl
@@ -138,9 +133,8 @@ one_alike out true c left g x gs hs same takes rest = go (is_send_twice c) refl 
 
 draws_alike : (t : Bool) (c : Command) (g : Gear) (x : Option Command) → (is_send_twice c ≡ true → t ≡ true → x ≡ g.half)
     → (t && draws_a_number c (record g { half = x })) ≡ (t && draws_a_number c g)
-draws_alike false c g x same = refl
 draws_alike true Randomise g x same = ap (λ h. is_second Randomise h && is_active g.state) (same refl refl)
-draws_alike true _ g x same = refl
+draws_alike _ _ g x same = refl
 
 stored_alike : (c : Command) (g : Gear) (x : Option Command) → stored_short c (record g { half = x }) ≡ stored_short c g
 stored_alike (Program short) g x = refl
@@ -148,9 +142,6 @@ stored_alike _ g x = refl
 
 answer_alike : (c : Command) (g : Gear) (x : Option Command) → answer c (record g { half = x }) ≡ answer c g
 answer_alike Compare g x = refl
-answer_alike (Verify a) g x = refl
-answer_alike QueryShort g x = refl
-answer_alike (RandomByte a part) g x = refl
 answer_alike _ g x = refl
 
 -- WHAT A FRAME LEAVES of both. A frame of a pair finds the same half pairs.
@@ -274,16 +265,10 @@ leads_or true o none on = cc
 leads_or false o none on = cc
 
 paired_follows : (b : Block) (xs : List Assignment) (s : Stage) (c : Command) → Follows b xs s c → is_send_twice c ≡ true → is_paired_at s ≡ true
-paired_follows b xs Terminated c on two = refl
-paired_follows b xs InitialisedOnce c on two = refl
-paired_follows b xs Initialised c on two = refl
-paired_follows b xs DrawFree c on two = refl
-paired_follows b xs RandomisedOnce c on two = refl
 paired_follows b xs (Hunted r last left) (Initialise target) on two = absurd (leads_or (left == 0) None refl on.leads_on)
 paired_follows b xs (Hunted r last left) Randomise on two = absurd (leads_or (left == 0) None refl on.leads_on)
-paired_follows b xs _ (Initialise target) on two = absurd (let none = on.leads_on in cc)
-paired_follows b xs _ Randomise on two = absurd (let none = on.leads_on in cc)
-paired_follows b xs _ _ on two = absurd (cc)
+paired_follows b xs _ Randomise on two = let leads = on.leads_on in cc
+paired_follows b xs _ _ on two = let leads = on.leads_on in cc
 
 unpaired_or : (t : Bool) (o : Option Stage) → is_paired_at (unwrap_or o Over) ≡ false → is_paired_at (unwrap_or (if t then None else o) Over) ≡ false
 unpaired_or true o loose = refl
@@ -302,12 +287,7 @@ unpaired_asked (Hunted r last left) (RandomByte a part) asks = unpaired_or (left
 unpaired_asked (HighAsked d high) (RandomByte a Middle) asks = unpaired_if (a == d) _ refl
 unpaired_asked (MiddleAsked d bytes) (RandomByte a Low) asks = unpaired_if (a == d) _ refl
 unpaired_asked _ (RandomByte a High) asks = refl
-unpaired_asked _ (RandomByte a Middle) asks = refl
-unpaired_asked _ (RandomByte a Low) asks = refl
-unpaired_asked _ Compare asks = refl
-unpaired_asked _ (Verify a) asks = refl
-unpaired_asked _ QueryShort asks = refl
-unpaired_asked _ _ asks = absurd (cc)
+unpaired_asked _ _ asks = cc
 
 -- THE WORLD of a run with the gear that there are
 abbrev with_gear : World → List Gear → World
@@ -346,9 +326,7 @@ taken_in out reach w hs c f may near all =
 -- WHAT IS ALLOWED of what there is, is allowed in the run
 order_same : (w : World) (hs : List Gear) (c : ℕ) (k : Controller) (o : Order) → MayOrder (with_gear w hs) c k o → MayOrder w c k o
 order_same w hs c k (Put p f) may = may
-order_same w hs c k (Commit x) may = may
-order_same w hs c k (Done e) may = may
-order_same w hs c k (Halt why) may = may
+order_same w hs c k _ may = may
 
 up_same : (w : World) (hs : List Gear) (c : ℕ) → IsUp (with_gear w hs) c → IsUp w c
 up_same w hs c here = record { known = here.known; up = here.up }
@@ -391,7 +369,6 @@ sent_alike b t gs hs near = wholly (is_paired_at (stage_of (if b then t else [])
 
 event_led : (w : World) (hs : List Gear) (e : Event) → Allowed w e → Matches w hs → IsLed (happens (with_gear w hs) e) (happens w e)
 event_led w hs (event.Acted c i o) here near = (hs, refl, unless_alike (gives_up w.bus c o) w.trace w.gear hs near)
-event_led w hs (event.Offered c f) here near = (hs, refl, near)
 event_led w hs (event.Sent c f h) here near =
     let taken : TakenAlike true Everyone (command_of f) 0 w.gear hs w.left = taken_in true Everyone w hs c f here.may near (λ o. refl) in (
       row_after Everyone (command_of f) 0 hs w.left,
@@ -415,7 +392,7 @@ event_led w hs (event.Power g on) here near =
 event_led w hs (event.Expired g) here near =
     (set hs g (gear_expired (get_or hs g fresh)), refl, changed_alike _ gear_expired (expired_alike _) w.gear hs g near)
 event_led w hs (event.Down c) here near = (hs, refl, unless_alike (owns w.bus.owner c) w.trace w.gear hs near)
-event_led w hs (event.Up c kept) here near = (hs, refl, near)
+event_led w hs _ here near = (hs, refl, near)
 
 -- A QUESTION THAT WAS DESTROYED and told as damaged: the run has it as sent
 told_allowed : (w : World) (hs : List Gear) (c : ℕ) (f : Forward) (set : GearSet) → MayHappen (with_gear w hs) (as_damaged c f set)
@@ -430,8 +407,7 @@ told_allowed w hs c f set here = record {
 damaged_alike : (b : Bool) (t : List Entry) (f : Forward) (gs hs : List Gear) → is_question (command_of f) ≡ true → Alike false gs hs
     → Alike (is_paired_at (stage_of (if b then t ++ entry f Damaged ∷ [] else []))) gs hs
 damaged_alike false t f gs hs asks near = free_alike gs hs near
-damaged_alike true t f gs hs asks near =
-    rw (stage_more t (entry f Damaged), unpaired_asked (stage_of t) (command_of f) asks) near
+damaged_alike true t f gs hs asks near = rw (stage_more t (entry f Damaged), unpaired_asked (stage_of t) (command_of f) asks) near
 
 told_led : (w : World) (hs : List Gear) (c : ℕ) (f : Forward) (set : GearSet) → is_question (command_of f) ≡ true → Matches w hs
     → IsLed (happened (with_gear w hs) (as_damaged c f set)) (happens w (event.Sent c f Damaged))
@@ -450,8 +426,7 @@ allowed_told : (w : World) (hs : List Gear) (x : Happening) → MayHappen (with_
 allowed_told w hs (rightly e) here near = allowed_same w hs e near here
 allowed_told w hs (as_damaged c f set) here near = told_allowed w hs c f set here
 
-led : (w : World) (hs : List Gear) (x : Happening) → MayHappen (with_gear w hs) x → Matches w hs
-    → IsLed (happened (with_gear w hs) x) (happens w (as_told x))
+led : (w : World) (hs : List Gear) (x : Happening) → MayHappen (with_gear w hs) x → Matches w hs → IsLed (happened (with_gear w hs) x) (happens w (as_told x))
 led w hs (rightly e) here near = event_led w hs e (allowed_same w hs e near here) near
 led w hs (as_damaged c f set) here near = told_led w hs c f set here.1 near
 
@@ -470,8 +445,7 @@ from_start : (p : Plan) (capacity : ℕ) (xs : List Happening) → IsHistory p c
 from_start p capacity xs history = all_led (start p capacity) (start p capacity).gear xs history.may (alike_self _ (start p capacity).gear)
 
 pub told_is_run : (p : Plan) (capacity : ℕ) (xs : List Happening) → IsHistory p capacity xs → IsRun p capacity (all_told xs)
-told_is_run p capacity xs history =
-    record { plan = history.plan; allowed = (from_start p capacity xs history).0; leaves = history.leaves }
+told_is_run p capacity xs history = record { plan = history.plan; allowed = (from_start p capacity xs history).0; leaves = history.leaves }
 
 pub told_world : (p : Plan) (capacity : ℕ) (xs : List Happening) → IsHistory p capacity xs
     → after_quiet (after_happened p capacity xs) ≡ after_quiet (after p capacity (all_told xs))
@@ -526,7 +500,7 @@ history_front : (p : Plan) (capacity : ℕ) (xs ys : List Happening) → IsHisto
 history_front p capacity xs ys history = record {
   plan = history.plan;
   may = may_front (start p capacity) xs ys history.may;
-  leaves = leaves_front p.used (all_told xs) (all_told ys) (subst (λ es. AllByRecursion (LeavesUsed p.used) es) (told_both xs ys) history.leaves);
+  leaves = all_front (LeavesUsed p.used) (all_told xs) (all_told ys) (subst (λ es. AllByRecursion (LeavesUsed p.used) es) (told_both xs ys) history.leaves);
 }
 
 keeps_there : (b d : Bool) (v w : World) (gs hs : List Gear) → Alike b v.gear gs → Alike d w.gear hs → KeepsAddresses v w
@@ -554,10 +528,7 @@ told_ever_after p capacity earlier later history =
 
 -- A SENDER THAT GIVES ITS TRANSACTION UP: nothing is otherwise than where it was told that its question was destroyed
 nothing_found : (r : SearchAddress) (q : Asked) (c : Command) → found_by r q c Damaged ≡ None
-nothing_found r q QueryShort = refl
 nothing_found r q (RandomByte a High) = refl
-nothing_found r q (RandomByte a Middle) = refl
-nothing_found r q (RandomByte a Low) = refl
 nothing_found r q _ = refl
 
 changed_twice : (cs : List Controller) (c : ℕ) (f g : Controller → Controller) → c < length cs

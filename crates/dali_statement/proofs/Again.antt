@@ -21,8 +21,7 @@ ends_as_plan p ms history = record {
     within.0,
     within.1,
     within.2,
-    all_by (λ g. not (holds a g.short) || (g.random == r)) gs
-        (λ i x at. for_number a r x (λ is. safe.sound.for_gear c a r i x e at is)),
+    all_by (λ g. not (holds a g.short) || (g.random == r)) gs (λ i x at. for_number a r x (λ is. safe.sound.for_gear c a r i x e at is)),
   );
   enrolled = λ c a r e. let of = safe.sound.tables c a r e in
       any_by (λ g. holds a g.short && (g.random == r)) gs of.0 of.1 of.2 (both (holds_by a of.1.short of.3) (equals of.1.random r of.4));
@@ -43,19 +42,17 @@ ends_as_plan p ms history = record {
 set_at : (gs : List Gear) (g : ℕ) (y : Gear) (i : ℕ) (z : Gear) → At (slice_set gs g y) i z → ((i ≡ g) × (z ≡ y)) ⊎ ((i ≡ g → ⊥) × At gs i z)
 set_at [] g y i z at = absurd (cc)
 set_at (x ∷ xs) zero y zero z at = inl (refl, sym (some_is at))
-set_at (x ∷ xs) zero y (suc i) z at = inr (λ e. absurd (cc), at)
-set_at (x ∷ xs) (suc g) y zero z at = inr (λ e. absurd (cc), at)
 set_at (x ∷ xs) (suc g) y (suc i) z at = go (set_at xs g y i z at) where
   go : ((i ≡ g) × (z ≡ y)) ⊎ ((i ≡ g → ⊥) × At xs i z) → ((suc i ≡ suc g) × (z ≡ y)) ⊎ ((suc i ≡ suc g → ⊥) × At (x ∷ xs) (suc i) z)
   go (inl new) = inl (ap suc new.0, new.1)
   go (inr old) = inr (λ e. old.0 (let same : i ≡ g = cc in same), old.1)
+set_at (x ∷ xs) _ y _ z at = inr (λ e. absurd (cc), at)
 
 set_other : (gs : List Gear) (g : ℕ) (y : Gear) (i : ℕ) (z : Gear) → (i ≡ g → ⊥) → At gs i z → At (slice_set gs g y) i z
 set_other [] g y i z other at = absurd (cc)
 set_other (x ∷ xs) zero y zero z other at = absurd (other refl)
-set_other (x ∷ xs) zero y (suc i) z other at = at
-set_other (x ∷ xs) (suc g) y zero z other at = at
 set_other (x ∷ xs) (suc g) y (suc i) z other at = set_other xs g y i z (λ e. other (ap suc e)) at
+set_other (x ∷ xs) _ y _ z other at = at
 
 module _ (p q : Plan) (g a : ℕ) (x y : Gear) (plan : IsPlan p) (is : IsReplaced p g x y a q) where
   bare : {b : ℕ} (z : Gear) → z ≡ y → z.short ≡ Some b → ⊥

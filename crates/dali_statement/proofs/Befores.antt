@@ -1,10 +1,10 @@
-use Rattle.std.proofs.Common.{◌≡◌, ◌⊎◌, inl, inr, ℕ, true, false, sym, ap, subst, List, [], ◌∷◌, ◌++◌, map, Some}
+use Rattle.std.proofs.Common.{rules, ◌≡◌, ◌⊎◌, inl, inr, ℕ, true, false, sym, ap, subst, List, [], ◌∷◌, ◌++◌, map, Some}
 use Rattle.dali_frame.specs.{Random.value_of, declared.frames.{Answer.Answer, Forward.Forward}}
 use Rattle.dali_special.specs.{Command.command_of, declared.command.Command.Command as Read}
-use Rattle.dali_script.specs.Scripts.{Step, sends, is_asking, AreAsking, Script, Open, Call, Draw, Probe, Hunt, Look, Give, PassOver, Resolve, Close, ArcPower}
+use Rattle.dali_script.specs.Scripts.{Step, sends, is_asking, AreAsking, Script, Call, Hunt, Give}
 use Rattle.dali_script.specs.{Scripts.{steps, MaySend, IsFront, Lawful}, Records.{Assignment, Has}, declared.{block.Block.Block, trace.Entry.Entry}}
 use Rattle.dali_script.proofs.Members.{has_either}
-use Rattle.dali_statement.{specs.Own.{Own, Act, Puts, Loses, Begins, Keeps, own_after, own_all, AreOwn}, proofs.Own.filtered}
+use Rattle.dali_statement.{specs.Own.{Own, Act, Puts, Loses, Keeps, own_after, own_all, AreOwn}, proofs.Own.filtered}
 use Rattle.dali_special.specs.declared.command.Command.TheVariants as read
 use Rattle.dali_script.specs.declared.records.Record.TheVariants as record_of
 
@@ -37,17 +37,10 @@ all_asking reserved [] are = tt
 all_asking reserved (c ∷ cs) are = (asking reserved c are.0, all_asking reserved cs are.1)
 
 each_script : (b : Block) (reserved : List Assignment) (s : Script) → MaySend b reserved s → AreReserved reserved (steps s)
-each_script b reserved Open may = (tt, (tt, (tt, (tt, (tt, tt)))))
 each_script b reserved (Call r cs) may = (tt, (tt, (tt, (tt, (tt, (tt, all_asking reserved cs may.0))))))
-each_script b reserved (Draw high middle) may = (tt, (tt, (tt, (tt, (tt, (tt, (tt, (tt, tt))))))))
-each_script b reserved (Probe r) may = (tt, (tt, (tt, (tt, tt))))
 each_script b reserved (Hunt r cs) may = (tt, (tt, (tt, all_asking reserved cs may.0)))
-each_script b reserved (Look r) may = (tt, (tt, (tt, (tt, (tt, tt)))))
 each_script b reserved (Give r a) may = (tt, (tt, (tt, (tt, ((value_of r, may.reserved_for), (tt, (tt, tt)))))))
-each_script b reserved (PassOver r) may = (tt, (tt, (tt, (tt, tt))))
-each_script b reserved (Resolve a) may = (tt, (tt, (tt, tt)))
-each_script b reserved Close may = (tt, tt)
-each_script b reserved (ArcPower f) may = (tt, tt)
+each_script b reserved _ may = search rules
 
 given_reserved : (b : Block) (reserved : List Assignment) (t : List Entry) (f : Forward) (a : ℕ) → Lawful b reserved t f
     → command_of f ≡ read.Program (Some a) → (r : ℕ) × Has reserved (a, r)
@@ -64,16 +57,13 @@ KeptBefore v before a r = Has v.kept.reserved (a, r) ⊎ Has before (Keeps (reco
 
 sooner : (v : Own) (act : Act) (before : List Act) (a r : ℕ) → KeptBefore (own_after v act) before a r → KeptBefore v (act ∷ before) a r
 sooner v act before a r (inr kept) = inr (inr kept)
-sooner v (Puts f h) before a r (inl has) = inl has
-sooner v (Loses f) before a r (inl has) = inl has
-sooner v Begins before a r (inl has) = inl has
-sooner v (Keeps (record_of.Enrol b n)) before a r (inl has) = inl has
 sooner v (Keeps (record_of.Release b n)) before a r (inl has) = inl (filtered _ v.kept.reserved (a, r) has).0
 sooner v (Keeps (record_of.Reserve b n)) before a r (inl has) = go (has_either v.kept.reserved ((b, n) ∷ []) (a, r) has) where
   go : HasPair v.kept.reserved a r ⊎ HasPair ((b, n) ∷ []) a r → KeptBefore v (Keeps (record_of.Reserve b n) ∷ before) a r
   go (inl old) = inl old
   go (inr (inl same)) = inr (inl (ap (λ x. Keeps (record_of.Reserve x.0 x.1)) same))
   go (inr (inr none)) = elim none [ ]
+sooner v _ before a r (inl has) = inl has
 
 kept_before : (v : Own) (before : List Act) (a r : ℕ) → Has (own_all v before).kept.reserved (a, r) → KeptBefore v before a r
 kept_before v [] a r has = inl has

@@ -2,7 +2,7 @@ use Rattle.std.proofs.Common.{◌≡◌, ◌⊎◌, inl, inr, ℕ, ◌<◌, ◌+
 use Rattle.std.proofs.Common.{if◌then◌else◌, IfSome}
 use Rattle.dali_frame.specs.{Random.value_of, declared.numbers.SearchAddress.SearchAddress}
 use Rattle.dali_special.specs.{Command.{target_data, is_send_twice, IsSpelled}, declared.command.{Command.Command as Read, Part.Part as AskedPart}}
-use Rattle.dali_special.specs.declared.command.Target.{Target, TheVariants.{All, Addressed, Unaddressed}}
+use Rattle.dali_special.specs.declared.command.Target.{Target, TheVariants.{Addressed, Unaddressed}}
 use Rattle.dali_gear.specs.Gear.{Gear as Real, is_active, is_second, concerns, after_frame, answer_to, with_power, without_power, gear_expired, gear_quieted}
 use Rattle.dali_gear.specs.declared.state.InitialisationState.{InitialisationState, TheVariants.{Disabled, Enabled, Withdrawn}}
 use Rattle.dali_statement.specs.{Gear.{part_seen, command_seen, byte_in, gear_seen, HasShort}, Page.{Part, High, Middle, Low, same, Gear, is_found, code}}
@@ -22,30 +22,23 @@ equal_gear x y live random search short =
     ∙ (ap (λ f. made y.live y.random f x.short) (fun_ext search) ∙ ap (λ v. made y.live y.random y.search v) short))
 
 abbrev real : Bool → InitialisationState → ℕ → SearchAddress → Option ℕ → Option Read → Real
-real powered state random search short half =
-    record { powered = powered; state = state; random = random; search = search; short = short; half = half }
+real powered state random search short half = record { powered = powered; state = state; random = random; search = search; short = short; half = half }
 
 -- ---------------------------------------------------------------- frames that are no pair
 
 high_set : (t : Bool) (a : SearchAddress) (v : ℕ) (p : Part)
     → byte_in (if t then record a { high = v } else a) p ≡ (if t && same p High then v else byte_in a p)
-high_set false a v p = refl
 high_set true a v High = refl
-high_set true a v Middle = refl
-high_set true a v Low = refl
+high_set _ a v _ = refl
 
 middle_set : (t : Bool) (a : SearchAddress) (v : ℕ) (p : Part)
     → byte_in (if t then record a { middle = v } else a) p ≡ (if t && same p Middle then v else byte_in a p)
-middle_set false a v p = refl
 middle_set true a v High = refl
-middle_set true a v Middle = refl
-middle_set true a v Low = refl
+middle_set _ a v _ = refl
 
 low_set : (t : Bool) (a : SearchAddress) (v : ℕ) (p : Part) → byte_in (if t then record a { low = v } else a) p ≡ (if t && same p Low then v else byte_in a p)
-low_set false a v p = refl
 low_set true a v High = refl
-low_set true a v Middle = refl
-low_set true a v Low = refl
+low_set _ a v _ = refl
 
 active : (t : Bool) → is_active (if t then Withdrawn else Enabled) ≡ true
 active true = refl
@@ -55,33 +48,20 @@ active false = refl
 step_of : (c : Read) (draw n : ℕ) (b : Bool) (st : InitialisationState) (r : ℕ) (a : SearchAddress) (sh : Option ℕ) (hf : Option Read)
     → is_send_twice c ≡ false → gear_seen (after_frame c draw (real b st r a sh hf)) ≡ takes (command_seen c) n (gear_seen (real b st r a sh hf))
 step_of read.Terminate draw n false st r a sh hf e = refl
-step_of read.Terminate draw n true st r a sh hf e = refl
 step_of (read.Initialise t) draw n b st r a sh hf e = absurd (cc)
 step_of read.Randomise draw n b st r a sh hf e = absurd (cc)
 step_of read.Compare draw n false st r a sh hf e = refl
-step_of read.Compare draw n true st r a sh hf e = refl
-step_of read.Withdraw draw n false st r a sh hf e = refl
-step_of read.Withdraw draw n true Disabled r a sh hf e = refl
-step_of read.Withdraw draw n true Withdrawn r a sh hf e = refl
 step_of read.Withdraw draw n true Enabled r a sh hf e = ap (λ l. made l r (λ p. byte_in a p) sh) (active (r == value_of a))
-step_of (read.SearchHigh v) draw n false st r a sh hf e = refl
 step_of (read.SearchHigh v) draw n true st r a sh hf e = equal_gear _ _ refl refl (high_set (is_active st) a v) refl
-step_of (read.SearchMiddle v) draw n false st r a sh hf e = refl
 step_of (read.SearchMiddle v) draw n true st r a sh hf e = equal_gear _ _ refl refl (middle_set (is_active st) a v) refl
-step_of (read.SearchLow v) draw n false st r a sh hf e = refl
 step_of (read.SearchLow v) draw n true st r a sh hf e = equal_gear _ _ refl refl (low_set (is_active st) a v) refl
 step_of (read.Program s) draw n false st r a sh hf e = refl
-step_of (read.Program s) draw n true st r a sh hf e = refl
 step_of (read.Verify s) draw n false st r a sh hf e = refl
-step_of (read.Verify s) draw n true st r a sh hf e = refl
 step_of read.QueryShort draw n false st r a sh hf e = refl
-step_of read.QueryShort draw n true st r a sh hf e = refl
 step_of (read.RandomByte s q) draw n false st r a sh hf e = refl
-step_of (read.RandomByte s q) draw n true st r a sh hf e = refl
 step_of (read.Arc f) draw n false st r a sh hf e = refl
-step_of (read.Arc f) draw n true st r a sh hf e = refl
 step_of (read.Other f) draw n false st r a sh hf e = refl
-step_of (read.Other f) draw n true st r a sh hf e = refl
+step_of _ draw n _ _ r a sh hf e = refl
 
 pub step : (c : Read) (draw n : ℕ) (g : Real) → is_send_twice c ≡ false → gear_seen (after_frame c draw g) ≡ takes (command_seen c) n (gear_seen g)
 step c draw n g e = step_of c draw n g.powered g.state g.random g.search g.short g.half e
@@ -92,13 +72,12 @@ one_code : (a b : ℕ) → (a == b) ≡ ((2 * a + 1 == 0) || (2 * a + 1 == 2 * b
 one_code a b = go (a == b) (2 * a + 1 == 0) (2 * a + 1 == 2 * b + 1) refl refl refl where
   go : (t u v : Bool) → (a == b) ≡ t → (2 * a + 1 == 0) ≡ u → (2 * a + 1 == 2 * b + 1) ≡ v → t ≡ (u || v)
   go t true v same zero code = absurd (let e : 2 * a + 1 ≡ 0 = equal (2 * a + 1) 0 zero in omega arith)
-  go true false true same zero code = refl
-  go false false false same zero code = refl
   go true false false same zero code =
       absurd (let e : a ≡ b = equal a b same in let f : true ≡ false = sym (equals (2 * a + 1) (2 * b + 1) (ap (λ k. 2 * k + 1) e)) ∙ code in cc)
   go false false true same zero code =
       absurd (let e : 2 * a + 1 ≡ 2 * b + 1 = equal (2 * a + 1) (2 * b + 1) code in
       let d : a ≡ b = omega arith in let f : true ≡ false = sym (equals a b d) ∙ same in cc)
+  go _ false _ same zero code = refl
 
 no_mask : (a : ℕ) → a < 64 → false ≡ ((2 * a + 1 == 0) || (2 * a + 1 == 0xFF))
 no_mask a small = go (2 * a + 1 == 0) (2 * a + 1 == 0xFF) refl refl where
@@ -115,19 +94,15 @@ mask_is_not b small = go (0xFF == 2 * b + 1) refl where
 
 concerned : (t : Target) (sh : Option ℕ) → IsSpelled (read.Initialise t) → IfSome sh (λ a. a < 64)
     → concerns t sh ≡ ((target_data t == 0) || (target_data t == code sh))
-concerned All sh small short = refl
 concerned (Addressed a) (Some b) small short = one_code a b
 concerned (Addressed a) None small short = no_mask a small
 concerned Unaddressed (Some b) small short = mask_is_not b short
-concerned Unaddressed None small short = refl
+concerned _ _ small short = refl
 
 wakes : (k : Bool) (st : InitialisationState) → is_active (if k then Enabled else st) ≡ (is_active st || k)
 wakes true Disabled = refl
-wakes true Enabled = refl
-wakes true Withdrawn = refl
 wakes false Disabled = refl
-wakes false Enabled = refl
-wakes false Withdrawn = refl
+wakes _ _ = refl
 
 pair_of : (c : Read) (draw : ℕ) (b : Bool) (st : InitialisationState) (r : ℕ) (a : SearchAddress) (sh : Option ℕ) (hf : Option Read)
     → is_send_twice c ≡ true → IsSpelled c → IfSome sh (λ n. n < 64)
@@ -157,12 +132,8 @@ pair c draw g e spelled short = pair_of c draw g.powered g.state g.random g.sear
 
 query_of : (b : Bool) (st : InitialisationState) (r : ℕ) (a : SearchAddress) (sh : Option ℕ) (hf : Option Read)
     → answer_to read.QueryShort (real b st r a sh hf) ≡ answer QueryShort (gear_seen (real b st r a sh hf))
-query_of false st r a sh hf = refl
-query_of true Disabled r a sh hf = refl
 query_of true Enabled r a None hf = refl
-query_of true Enabled r a (Some s) hf = refl
-query_of true Withdrawn r a None hf = refl
-query_of true Withdrawn r a (Some s) hf = refl
+query_of _ _ r a _ hf = refl
 
 pub query : (g : Real) → answer_to read.QueryShort g ≡ answer QueryShort (gear_seen g)
 query g = query_of g.powered g.state g.random g.search g.short g.half
@@ -170,10 +141,9 @@ query g = query_of g.powered g.state g.random g.search g.short g.half
 turned : (s n : ℕ) → (s == n) ≡ (n == s)
 turned s n = go (s == n) (n == s) refl refl where
   go : (t u : Bool) → (s == n) ≡ t → (n == s) ≡ u → t ≡ u
-  go true true e f = refl
-  go false false e f = refl
   go true false e f = absurd (let is : true ≡ false = sym (equals n s (sym (equal s n e))) ∙ f in cc)
   go false true e f = absurd (let is : true ≡ false = sym (equals s n (sym (equal n s f))) ∙ e in cc)
+  go _ _ e f = refl
 
 same_test : (x v : ℕ) (t u : Bool) → t ≡ u → (if t then Some x else None) ≡ Some v → (if u then Some x else None) ≡ Some v
 same_test x v t u is e = ap (λ k. if k then Some x else None) (sym is) ∙ e
@@ -183,8 +153,7 @@ random_of : (s v : ℕ) (q : AskedPart) (b : Bool) (st : InitialisationState) (r
 random_of s v q false st r a sh hf e = absurd (cc)
 random_of s v q true st r a None hf e = e
 random_of s v asked.High true st r a (Some n) hf e = same_test _ v (s == n) (n == s) (turned s n) e
-random_of s v asked.Middle true st r a (Some n) hf e = same_test _ v (s == n) (n == s) (turned s n) e
-random_of s v asked.Low true st r a (Some n) hf e = same_test _ v (s == n) (n == s) (turned s n) e
+random_of s v _ true st r a (Some n) hf e = same_test _ v (s == n) (n == s) (turned s n) e
 
 pub random : (s v : ℕ) (q : AskedPart) (g : Real) → answer_to (read.RandomByte s q) g ≡ Some v → answer (QueryRandom s (part_seen q)) (gear_seen g) ≡ Some v
 random s v q g e = random_of s v q g.powered g.state g.random g.search g.short g.half e
@@ -207,8 +176,7 @@ power_on_of true st r a sh hf = refl
 power_on_of false st r a sh hf = equal_gear _ _ refl refl each refl where
   each : (p : Part) → byte_in (record { high = 0xFF; middle = 0xFF; low = 0xFF }) p ≡ 0xFF
   each High = refl
-  each Middle = refl
-  each Low = refl
+  each _ = refl
 
 pub power_on : (g : Real) → gear_seen (with_power g) ≡ gear_seen g
 power_on g = power_on_of g.powered g.state g.random g.search g.short g.half

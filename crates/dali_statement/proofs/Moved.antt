@@ -16,23 +16,19 @@ At gs g x = slice_get gs g ≡ Some x
 -- what is there afterwards was there before, and the other way round
 pub befallen : {A : Type 0} (change : A → Gear → Gear) (reach : List (Option A)) (gs : List Gear) (g : ℕ) (y : Gear) → At (befalls change reach gs) g y
     → (x : Gear) × At gs g x × Becomes change x y
-befallen {A} change [] gs g y at = (y, at, inl refl)
-befallen {A} change (None ∷ reach) [] g y at = (y, at, inl refl)
-befallen {A} change (Some n ∷ reach) [] g y at = (y, at, inl refl)
 befallen {A} change (None ∷ reach) (x ∷ gs) zero y at = (x, refl, inl (sym (some_is at)))
 befallen {A} change (Some n ∷ reach) (x ∷ gs) zero y at = (x, refl, inr (n, sym (some_is at)))
 befallen {A} change (None ∷ reach) (x ∷ gs) (suc g) y at = befallen change reach gs g y at
 befallen {A} change (Some n ∷ reach) (x ∷ gs) (suc g) y at = befallen change reach gs g y at
+befallen {A} change _ _ g y at = (y, at, inl refl)
 
 pub befalling : {A : Type 0} (change : A → Gear → Gear) (reach : List (Option A)) (gs : List Gear) (g : ℕ) (x : Gear) → At gs g x
     → (y : Gear) × At (befalls change reach gs) g y × Becomes change x y
-befalling {A} change [] gs g x at = (x, at, inl refl)
-befalling {A} change (None ∷ reach) [] g x at = (x, at, inl refl)
-befalling {A} change (Some n ∷ reach) [] g x at = (x, at, inl refl)
 befalling {A} change (None ∷ reach) (z ∷ gs) zero x at = (z, refl, inl (some_is at))
 befalling {A} change (Some n ∷ reach) (z ∷ gs) zero x at = (change n z, refl, inr (n, ap (change n) (some_is at)))
 befalling {A} change (None ∷ reach) (z ∷ gs) (suc g) x at = befalling change reach gs g x at
 befalling {A} change (Some n ∷ reach) (z ∷ gs) (suc g) x at = befalling change reach gs g x at
+befalling {A} change _ _ g x at = (x, at, inl refl)
 
 mapped_from : (f : Gear → Gear) (gs : List Gear) (g : ℕ) (y : Gear) → At (map f gs) g y → (x : Gear) × At gs g x × (y ≡ f x)
 mapped_from f [] g y at = absurd (cc)

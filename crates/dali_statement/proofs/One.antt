@@ -38,9 +38,7 @@ numbered : (h m l : Option ℕ) (f : Part → ℕ) (r : ℕ)
     → (if is_some h && (is_some m && is_some l) then Some (unwrap_or h 0 * 65536 + unwrap_or m 0 * 256 + unwrap_or l 0) else None) ≡ Some r
     → ((v : ℕ) → h ≡ Some v → f High ≡ v) → ((v : ℕ) → m ≡ Some v → f Middle ≡ v) → ((v : ℕ) → l ≡ Some v → f Low ≡ v) → number f ≡ r
 numbered (Some h) (Some m) (Some l) f r e high middle low = rw (high h refl, middle m refl, low l refl) (some_is e)
-numbered (Some h) (Some m) None f r e high middle low = absurd (none_is e)
-numbered (Some h) None l f r e high middle low = absurd (none_is e)
-numbered None m l f r e high middle low = absurd (none_is e)
+numbered _ _ _ f r e high middle low = absurd (none_is e)
 
 -- a live gear has the number as search address
 pub searched : (said : List (Command × Heard)) (x : Gear) (r : ℕ) → Knows said x → number_sent said ≡ Some r → x.live ≡ true → number x.search ≡ r
@@ -84,21 +82,16 @@ vacant_by s c b x few knows may found =
 
 pub kept_by : (s : Site) (c : ℕ) (m : Command) (n a : ℕ) (x : Gear) → Few s c → Knows (s.said c) x → may_send s c m ≡ true → x.short ≡ Some a
     → ((takes m n x).short ≡ Some a) × ((takes m n x).random ≡ x.random)
-kept_by s c Terminate n a x few knows may is = (is, refl)
-kept_by s c (Initialise d) n a x few knows may is = (is, refl)
 kept_by s c Randomise n a x few knows may is = (is, go x.live refl) where
   go : (b : Bool) → x.live ≡ b → (if b then n else x.random) ≡ x.random
   go true live = absurd (some_none is (knows.opened may live))
   go false live = refl
-kept_by s c (Search p v) n a x few knows may is = (is, refl)
 kept_by s c (Program None) n a x few knows may is = absurd (false_is may)
 kept_by s c (Program (Some b)) n a x few knows may is = (go (is_found x) refl, refl) where
   go : (t : Bool) → is_found x ≡ t → (if t then Some b else x.short) ≡ Some a
   go true found = absurd (some_none is (vacant_by s c b x few knows may found).0)
   go false found = is
-kept_by s c QueryShort n a x few knows may is = (is, refl)
-kept_by s c (QueryRandom b q) n a x few knows may is = (is, refl)
-kept_by s c Other n a x few knows may is = (is, refl)
+kept_by s c _ n a x few knows may is = (is, refl)
 
 -- an address that it did not have was reserved for its number
 abbrev pub Given : Site → ℕ → ℕ → Gear → Type 0
@@ -106,18 +99,12 @@ Given s c a x = s.reserved c a ≡ Some x.random
 
 pub new_by : (s : Site) (c : ℕ) (m : Command) (n a : ℕ) (x : Gear) → Few s c → Knows (s.said c) x → may_send s c m ≡ true → (takes m n x).short ≡ Some a
     → (x.short ≡ Some a) ⊎ (Given s c a x × ((takes m n x).random ≡ x.random))
-new_by s c Terminate n a x few knows may is = inl is
-new_by s c (Initialise d) n a x few knows may is = inl is
-new_by s c Randomise n a x few knows may is = inl is
-new_by s c (Search p v) n a x few knows may is = inl is
 new_by s c (Program None) n a x few knows may is = absurd (false_is may)
 new_by s c (Program (Some b)) n a x few knows may is = go (is_found x) refl is where
   go : (t : Bool) → is_found x ≡ t → (if t then Some b else x.short) ≡ Some a → (x.short ≡ Some a) ⊎ (Given s c a x × (x.random ≡ x.random))
   go true found new = inr (ap (λ d. s.reserved c d) (sym (some_is new)) ∙ (vacant_by s c b x few knows may found).1, refl)
   go false found new = inl new
-new_by s c QueryShort n a x few knows may is = inl is
-new_by s c (QueryRandom b q) n a x few knows may is = inl is
-new_by s c Other n a x few knows may is = inl is
+new_by s c _ n a x few knows may is = inl is
 
 -- ---------------------------------------------------------------- what it knows
 
@@ -182,8 +169,7 @@ knows_after s c QueryShort (Byte v) n x short knows may heard = record {
   go r sent few live is (inr was) = knows.vacant r was sent few live is
   go r sent few live is (inl mask) = code_is_mask x.short short (heard r sent few is ∙ equal v 0xFF mask)
 knows_after s c QueryShort Nothing n x short knows may heard = record { bytes = knows.bytes; vacant = knows.vacant; opened = knows.opened }
-knows_after s c (QueryRandom b q) h n x short knows may heard = record { bytes = knows.bytes; vacant = knows.vacant; opened = knows.opened }
-knows_after s c Other h n x short knows may heard = record { bytes = knows.bytes; vacant = knows.vacant; opened = knows.opened }
+knows_after s c _ _ n x short knows may heard = record { bytes = knows.bytes; vacant = knows.vacant; opened = knows.opened }
 
 -- what a gear knows that missed INITIALISE or RANDOMISE
 pub knows_missed : (said : List (Command × Heard)) (m : Command) (h : Heard) (x : Gear) → may_miss m ≡ true → Knows said x → Knows ((m, h) ∷ said) x
@@ -199,45 +185,41 @@ knows_missed said m h x miss knows = absurd (false_is miss)
 
 -- a sender may forget the oldest of its list: what the rest allows, the whole list allows
 byte_longer : (q : Part) (v : ℕ) (said older : List (Command × Heard)) → byte_sent q said ≡ Some v → byte_sent q (said ++ older) ≡ Some v
-byte_longer q v [] older e = absurd (none_is e)
 byte_longer q v ((Search r w, h) ∷ said) older e = go (same q r) e (byte_longer q v said older) where
   go : (t : Bool) → (if t then Some w else byte_sent q said) ≡ Some v → (byte_sent q said ≡ Some v → byte_sent q (said ++ older) ≡ Some v)
       → (if t then Some w else byte_sent q (said ++ older)) ≡ Some v
   go true is more = is
   go false is more = more is
-byte_longer q v ((Initialise d, h) ∷ said) older e = absurd (none_is e)
 byte_longer q v ((Terminate, h) ∷ said) older e = byte_longer q v said older e
 byte_longer q v ((Randomise, h) ∷ said) older e = byte_longer q v said older e
 byte_longer q v ((Program a, h) ∷ said) older e = byte_longer q v said older e
 byte_longer q v ((QueryShort, h) ∷ said) older e = byte_longer q v said older e
 byte_longer q v ((QueryRandom a r, h) ∷ said) older e = byte_longer q v said older e
 byte_longer q v ((Other, h) ∷ said) older e = byte_longer q v said older e
+byte_longer q v _ older e = absurd (none_is e)
 
 pub vacant_longer : (said older : List (Command × Heard)) → is_vacant said ≡ true → is_vacant (said ++ older) ≡ true
-vacant_longer [] older e = absurd (false_is e)
 vacant_longer ((QueryShort, Byte v) ∷ said) older e = go (v == 0xFF) e (vacant_longer said older) where
   go : (t : Bool) → (t || is_vacant said) ≡ true → (is_vacant said ≡ true → is_vacant (said ++ older) ≡ true) → (t || is_vacant (said ++ older)) ≡ true
   go true is more = refl
   go false is more = more is
 vacant_longer ((QueryShort, Nothing) ∷ said) older e = vacant_longer said older e
-vacant_longer ((Search r w, h) ∷ said) older e = absurd (false_is e)
-vacant_longer ((Program a, h) ∷ said) older e = absurd (false_is e)
 vacant_longer ((Terminate, h) ∷ said) older e = vacant_longer said older e
 vacant_longer ((Initialise d, h) ∷ said) older e = vacant_longer said older e
 vacant_longer ((Randomise, h) ∷ said) older e = vacant_longer said older e
 vacant_longer ((QueryRandom a r, h) ∷ said) older e = vacant_longer said older e
 vacant_longer ((Other, h) ∷ said) older e = vacant_longer said older e
+vacant_longer _ older e = absurd (false_is e)
 
 pub open_longer : (said older : List (Command × Heard)) → is_open said ≡ true → is_open (said ++ older) ≡ true
-open_longer [] older e = absurd (false_is e)
 open_longer ((Terminate, h) ∷ said) older e = refl
-open_longer ((Program a, h) ∷ said) older e = absurd (false_is e)
 open_longer ((Initialise d, h) ∷ said) older e = open_longer said older e
 open_longer ((Randomise, h) ∷ said) older e = open_longer said older e
 open_longer ((Search r w, h) ∷ said) older e = open_longer said older e
 open_longer ((QueryShort, h) ∷ said) older e = open_longer said older e
 open_longer ((QueryRandom a r, h) ∷ said) older e = open_longer said older e
 open_longer ((Other, h) ∷ said) older e = open_longer said older e
+open_longer _ older e = absurd (false_is e)
 
 pub number_longer : (said older : List (Command × Heard)) (r : ℕ) → number_sent said ≡ Some r → number_sent (said ++ older) ≡ Some r
 number_longer said older r e =
@@ -247,9 +229,7 @@ number_longer said older r e =
           → number_sent (said ++ older) ≡ Some r
       go (Some h) high (Some m) middle (Some l) low e =
           rw (byte_longer High h said older high, byte_longer Middle m said older middle, byte_longer Low l said older low) e
-      go (Some h) high (Some m) middle None low e = absurd (none_is e)
-      go (Some h) high None middle l low e = absurd (none_is e)
-      go None high m middle l low e = absurd (none_is e)
+      go _ high _ middle _ low e = absurd (none_is e)
 
 -- what the rest allows, and tells
 pub may_longer : (s : Site) (c : ℕ) (newest older : List (Command × Heard)) (m : Command) → s.said c ≡ newest ++ older
@@ -262,11 +242,7 @@ may_longer s c newest older (Program (Some a)) said may =
     (ap (λ o. unwrap_or (option_map (λ r. holds r (s.reserved c a)) o) false) (number_longer newest older sent.0 sent.1) ∙ sent.2)
 may_longer s c newest older (Initialise d) said may = may
 may_longer s c newest older Randomise said may = ap is_open said ∙ open_longer newest older may
-may_longer s c newest older Terminate said may = refl
-may_longer s c newest older (Search q v) said may = refl
-may_longer s c newest older QueryShort said may = refl
-may_longer s c newest older (QueryRandom a q) said may = refl
-may_longer s c newest older Other said may = refl
+may_longer s c newest older _ said may = refl
 
 pub tells_longer : (m : Command) (h : Heard) (newest older : List (Command × Heard)) (q : Part) (a v : ℕ) → tells m h newest q a v ≡ true
     → tells m h (newest ++ older) q a v ≡ true

@@ -37,16 +37,11 @@ AskedSo told (two_bytes a high middle) = (told High a high ≡ true) × (told Mi
 asked_next : (old new : Told) (said : List (Command × Heard)) (x : Read) (h : Answer) (q : Asked) → More old new
     → ((r : Part) (a v : ℕ) → tells (command_seen x) (heard_seen h) said r a v ≡ true → new r a v ≡ true) → AskedSo old q → AskedSo new (asked_after x h q)
 asked_next old new said (read.RandomByte a asked.High) (answer.Byte v) q more tell was = tell High a v (both (equals a a refl) (equals v v refl))
-asked_next old new said (read.RandomByte a asked.Middle) (answer.Byte v) nothing more tell was = tt
-asked_next old new said (read.RandomByte a asked.Middle) (answer.Byte v) (two_bytes b high middle) more tell was = tt
 asked_next old new said (read.RandomByte a asked.Middle) (answer.Byte v) (high_byte b high) more tell was = go (b == a) refl where
   go : (t : Bool) → (b == a) ≡ t → AskedSo new (if t then two_bytes a high v else nothing)
   go false e = tt
-  go true e = (
-    more High a high (ap (λ d. old High d high) (sym (equal b a e)) ∙ was),
-    tell Middle a v (both (equals a a refl) (equals v v refl)),
-  )
-asked_next old new said _ _ q more tell was = tt
+  go true e = (more High a high (ap (λ d. old High d high) (sym (equal b a e)) ∙ was), tell Middle a v (both (equals a a refl) (equals v v refl)))
+asked_next old new said _ _ _ more tell was = tt
 
 -- ---------------------------------------------------------------- a sender on the page
 
@@ -88,9 +83,7 @@ heard_in test c [] h e is = absurd (cc)
 heard_in test c (w ∷ ws) h e is = go (w.0 == c) refl e (λ later. heard_in test c ws h later is) where
   go : (t : Bool) → (w.0 == c) ≡ t → (if t then Some w.1 else heard_by c ws) ≡ Some h → (heard_by c ws ≡ Some h → list_any test ws ≡ true)
       → (test w || list_any test ws) ≡ true
-  go true same here later =
-      first_of_either (test w) (list_any test ws)
-      (ap (λ k. test (k, w.1)) (equal w.0 c same) ∙ ap (λ k. test (c, k)) (some_is here) ∙ is)
+  go true same here later = first_of_either (test w) (list_any test ws) (ap (λ k. test (k, w.1)) (equal w.0 c same) ∙ ap (λ k. test (c, k)) (some_is here) ∙ is)
   go false other here later = second_of_either (test w) (later here)
 
 said_more : (said : List (Command × Heard)) (t : List Entry) (e : Entry) → said_on said (t ++ e ∷ []) ≡ entry_seen e ∷ said_on said t
@@ -107,8 +100,7 @@ module _ (p : Plan) (s : Site) (c : ℕ) (v : Own) (sees : Sees s c v) (safe : S
   more q a b e = first_of_either (s.told q a b) _ e
 
   tell : (q : Part) (a b : ℕ) → tells (command_seen (command_of f)) (heard_seen h) (s.said c) q a b ≡ true → next.told q a b ≡ true
-  tell q a b e = second_of_either (s.told q a b)
-      (heard_in (λ w. tells (command_seen (command_of f)) w.1 (s.said w.0) q a b) c ws (heard_seen h) own e)
+  tell q a b e = second_of_either (s.told q a b) (heard_in (λ w. tells (command_seen (command_of f)) w.1 (s.said w.0) q a b) c ws (heard_seen h) own e)
 
   -- what a finding says was told
   found_told : (x : Read) → command_of f ≡ x → (g : Answer) → h ≡ g → (y : Finding) → found_by (search_of v.trace) (asked_of v.trace) x g ≡ Some y
@@ -133,8 +125,6 @@ module _ (p : Plan) (s : Site) (c : ℕ) (v : Own) (sees : Sees s c v) (safe : S
         (subst (λ g. tells (QueryRandom a Low) (heard_seen g) (s.said c) Low a b ≡ true) (sym heard_is) (both (equals a a refl) (equals b b refl))))
 
     go : (q : Asked) → AskedSo s.told q → spelled_by a b q ≡ Some y → told_so next.told (assigned y).0 (assigned y).1 ≡ true
-    go nothing old e = absurd (cc)
-    go (high_byte d high) old e = absurd (cc)
     go (two_bytes d high middle) old e = by (d == a) refl e where
       by : (t : Bool) → (d == a) ≡ t → (if t then Some (Resolved a (number_of high middle b)) else None) ≡ Some y
           → told_so next.told (assigned y).0 (assigned y).1 ≡ true
@@ -143,6 +133,7 @@ module _ (p : Plan) (s : Site) (c : ℕ) (v : Own) (sees : Sees s c v) (safe : S
           (bytes_tell p next (goes p s (Sent (command_seen (command_of f)) ws reach) safe allow).safe a high middle b small
           (more High a high (ap (λ k. s.told High k high) (sym (equal d a same)) ∙ old.0))
           (more Middle a middle (ap (λ k. s.told Middle k middle) (sym (equal d a same)) ∙ old.1)) low)
+    go _ old e = absurd (cc)
   found_told _ is _ heard_is y e = absurd (cc)
 
   abbrev entry : Entry
@@ -215,8 +206,7 @@ module _ (p : Plan) (s : Site) (c : ℕ) (v : Own) (sees : Sees s c v) where
       go : (t : Bool) → ((c == c) && (b == a)) ≡ t → (if t then Some r else s.reserved c b) ≡ Some n
       go true e = absurd (fresh (subst (HasAddress v.kept.reserved) (equal b a (second_of_both _ _ e)) (has_map (λ y. y.0) v.kept.reserved (b, n) old)))
       go false e = sees.to b n old
-    to b n (inr (inl same)) =
-        ap (λ t. if t then Some r else s.reserved c b) (both self (equals b a (sym (ap (λ y. y.0) same)))) ∙ ap (λ y. Some y.1) same
+    to b n (inr (inl same)) = ap (λ t. if t then Some r else s.reserved c b) (both self (equals b a (sym (ap (λ y. y.0) same)))) ∙ ap (λ y. Some y.1) same
     to b n (inr (inr h)) = elim h [ ]
 
     from : (b n : ℕ) (t : Bool) → ((c == c) && (b == a)) ≡ t → (if t then Some r else s.reserved c b) ≡ Some n → HasPair (v.kept.reserved ++ (a, r) ∷ []) b n

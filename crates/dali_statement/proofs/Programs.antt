@@ -23,12 +23,8 @@ own_rest v [] later own = own
 own_rest v (a ∷ now) later own = own_rest (own_after v a) now later own.1
 
 block_after : (v : Own) (a : Act) → (own_after v a).kept.block ≡ v.kept.block
-block_after v (Puts f h) = refl
-block_after v (Loses f) = refl
-block_after v Begins = refl
 block_after v (Keeps (record_of.Reserve a r)) = refl
-block_after v (Keeps (record_of.Enrol a r)) = refl
-block_after v (Keeps (record_of.Release a r)) = refl
+block_after v _ = refl
 
 block_all : (v : Own) (acts : List Act) → (own_all v acts).kept.block ≡ v.kept.block
 block_all v [] = refl
@@ -37,9 +33,7 @@ block_all v (a ∷ acts) = block_all (own_after v a) acts ∙ block_after v a
 begun : (s : Site) (c : ℕ) (v : Own) (acts : List Act) → AreBegins acts → Sees s c v → Sees s c (own_all v acts)
 begun s c v [] are sees = sees
 begun s c v (Begins ∷ acts) are sees = begun s c (own_after v Begins) acts are (forgets s c v sees)
-begun s c v (Puts f h ∷ acts) are sees = elim are [ ]
-begun s c v (Loses f ∷ acts) are sees = elim are [ ]
-begun s c v (Keeps x ∷ acts) are sees = elim are [ ]
+begun s c v _ are sees = elim are [ ]
 
 -- ---------------------------------------------------------------- a program's part
 
@@ -152,8 +146,7 @@ is_allowed p s ours (Releases c a r b) ms parts rest = if_ours (ours c) (allowed
       let kept = keeps_own p s c (Releases c a r b) ms part (record_of.Release a r) part.shown.0 in
       let told = part.shown.1 refl in
       may_release p s c part.view part.sees a r b kept.0 told.0 told.1
-is_allowed p s ours (Power reach) ms parts rest = refl
-is_allowed p s ours (Expires reach) ms parts rest = refl
+is_allowed p s ours _ ms parts rest = refl
 
 -- ---------------------------------------------------------------- and then
 

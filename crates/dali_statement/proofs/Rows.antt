@@ -12,8 +12,7 @@ use Rattle.dali_special.specs.declared.command.Command.TheVariants as read
 -- ---------------------------------------------------------------- frames
 
 -- whom a frame reaches that has power takes it
-taken_by_all : (b : Bool) (c : Read) (left : List ℕ) (g : Real)
-    → one_after (b && true) c left g ≡ (if b then gear_taken c (next_draw g left) g else g)
+taken_by_all : (b : Bool) (c : Read) (left : List ℕ) (g : Real) → one_after (b && true) c left g ≡ (if b then gear_taken c (next_draw g left) g else g)
 taken_by_all true c left g = refl
 taken_by_all false c left g = refl
 
@@ -31,8 +30,6 @@ one_befalls change (Some n) x = change n x
 
 reached_one : (c : Read) (left : List ℕ) (b r : Bool) (g : Real) → g.powered ≡ b → IsSpelled c → HasShort g
     → (o : Option ℕ) × (gear_seen (one_after (b && r) c left g) ≡ one_befalls (takes (command_seen c)) o (gear_seen g))
-reached_one c left false r g power spelled short = (None, refl)
-reached_one c left true false g power spelled short = (None, refl)
 reached_one c left true true g power spelled short = go (is_send_twice c) refl where
   is : gear_seen (gear_taken c (next_draw g left) g) ≡ gear_seen (after_frame c (next_draw g left) g)
   is = sym (ap (λ b. gear_seen (if b then gear_taken c (next_draw g left) g else g)) power)
@@ -47,6 +44,7 @@ reached_one c left true true g power spelled short = go (is_send_twice c) refl w
       → (o : Option ℕ) × (gear_seen (gear_taken c (next_draw g left) g) ≡ one_befalls (takes (command_seen c)) o (gear_seen g))
   go false e = (Some 0, is ∙ step c (next_draw g left) 0 g e)
   go true e = by (pair c (next_draw g left) g e spelled short)
+reached_one c left _ _ g power spelled short = (None, refl)
 
 befalls_more : (change : ℕ → Gear → Gear) (o : Option ℕ) (some : List (Option ℕ)) (x : Gear) (xs : List Gear)
     → befalls change (o ∷ some) (x ∷ xs) ≡ one_befalls change o x ∷ befalls change some xs
@@ -69,11 +67,9 @@ of_one (Some n ∷ reach) = Some (0, n) ∷ of_one reach
 
 pub destroyed_one : (c : ℕ) (x : Command) (reach : List (Option ℕ)) (gs : List Gear)
     → gear_after (Destroyed ((c, x) ∷ []) (of_one reach)) gs ≡ befalls (takes x) reach gs
-destroyed_one c x [] gs = refl
-destroyed_one c x (None ∷ reach) [] = refl
-destroyed_one c x (Some n ∷ reach) [] = refl
 destroyed_one c x (None ∷ reach) (g ∷ gs) = ap (λ hs. g ∷ hs) (destroyed_one c x reach gs)
 destroyed_one c x (Some n ∷ reach) (g ∷ gs) = ap (λ hs. takes x n g ∷ hs) (destroyed_one c x reach gs)
+destroyed_one c x _ _ = refl
 
 -- ---------------------------------------------------------------- hearing
 
@@ -105,8 +101,7 @@ some_answer c m v seen k (g ∷ gs) some same =
     go : (rest : List ℕ) (o : Option ℕ) → o ≡ answer_to c g → (option_cons o rest ≢ []) → Same v (option_cons o rest)
         → ((rest ≢ []) → Same v rest → is_some_answer m v gs ≡ true) → (holds v (answer m (gear_seen g)) || is_some_answer m v gs) ≡ true
     go rest None is some same later = second (holds v (answer m (gear_seen g))) (later some same)
-    go rest (Some u) is some same later =
-        ap (λ a. a || is_some_answer m v gs) (ap (holds v) (seen g (sym is ∙ ap (λ n. Some n) same.0)) ∙ equals v v refl)
+    go rest (Some u) is some same later = ap (λ a. a || is_some_answer m v gs) (ap (holds v) (seen g (sym is ∙ ap (λ n. Some n) same.0)) ∙ equals v v refl)
 
 pub heard : (c : Read) (v : ℕ) (gs : List Real) → (answers_of Everyone c 0 gs ≢ []) → Same v (answers_of Everyone c 0 gs)
     → hears (command_seen c) (Byte v) (map gear_seen gs) ≡ true

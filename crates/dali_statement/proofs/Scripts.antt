@@ -1,9 +1,9 @@
 use Rattle.std.proofs.Common.{◌≡◌, ℕ, ◌+◌, ◌*◌, ◌/◌, ◌%◌, Bool, true, false, refl, sym, ap, subst, ◌∙◌, arith, List, [], ◌∷◌, ◌++◌, map, Option, Some, None}
-use Rattle.std.proofs.Common.{◌==◌, ◌&&◌, if◌then◌else◌, option_map, nat_lt}
+use Rattle.std.proofs.Common.{◌==◌, rules, ◌&&◌, if◌then◌else◌, option_map, nat_lt}
 use Rattle.dali_frame.specs.{Random.value_of, Short.short_of, declared.{frames.{Answer.Answer, Forward.Forward}, numbers.SearchAddress.SearchAddress}}
 use Rattle.dali_special.specs.{Command.{command_of, MASK}, declared.command.Command.Command as Read}
 use Rattle.dali_script.specs.{Findings.{search_after, at_power_on, search_from, search_of}, Records.{Assignment, Has}, Scripts.{Step, sends, is_asking}}
-use Rattle.dali_script.specs.Scripts.{AreAsking, Script, Open, Call, Draw, Probe, Hunt, Look, Give, PassOver, Resolve, Close, ArcPower, steps, IsHeard, MaySend}
+use Rattle.dali_script.specs.Scripts.{AreAsking, Script, Call, Hunt, Give, steps, IsHeard, MaySend}
 use Rattle.dali_script.specs.{Scripts.{IsFront, Lawful}, declared.{block.Block.Block, trace.Entry.Entry}}
 use Rattle.dali_statement.{proofs.{Tests.{both, first_of_both, equal, equals, holds_by, some_is}, One.{may_longer, tells_longer}}, specs.Gear.command_seen}
 use Rattle.dali_statement.specs.Page.{Part, High, Middle, Low, byte, Command, Search, QueryShort, code, holds, Heard, Byte, Site, number_sent, is_vacant, tells}
@@ -15,33 +15,14 @@ use Rattle.dali_special.specs.declared.command.Command.TheVariants as read
 
 -- a site of which only this is looked at
 abbrev sent_so : (ℕ → Option ℕ) → List (Command × Heard) → Site
-sent_so reserved said = record {
-  gear = [];
-  said = λ c. said;
-  told = λ q a v. false;
-  reserved = λ c a. reserved a;
-  enrolled = λ c a r. false;
-}
+sent_so reserved said = record { gear = []; said = λ c. said; told = λ q a v. false; reserved = λ c a. reserved a; enrolled = λ c a r. false }
 
 abbrev may : (ℕ → Option ℕ) → List (Command × Heard) → Read → Bool
 may reserved said c = may_send (sent_so reserved said) 0 (command_seen c)
 
 may_at : (s : Site) (c : ℕ) (x : Read) → may_send s c (command_seen x) ≡ may (s.reserved c) (s.said c) x
-may_at s c read.Terminate = refl
-may_at s c (read.Initialise t) = refl
-may_at s c read.Randomise = refl
 may_at s c (read.Program None) = refl
-may_at s c (read.Program (Some a)) = refl
-may_at s c read.Compare = refl
-may_at s c read.Withdraw = refl
-may_at s c (read.SearchHigh v) = refl
-may_at s c (read.SearchMiddle v) = refl
-may_at s c (read.SearchLow v) = refl
-may_at s c (read.Verify a) = refl
-may_at s c read.QueryShort = refl
-may_at s c (read.RandomByte a q) = refl
-may_at s c (read.Arc f) = refl
-may_at s c (read.Other f) = refl
+may_at s c _ = refl
 
 abbrev asks : Read → Bool
 asks read.QueryShort = true
@@ -96,83 +77,14 @@ may_program reserved r a high middle low h vacant is =
 module _ (b : Block) (records : List Assignment) (reserved : ℕ → Option ℕ) (same : (a r : ℕ) → Has records (a, r) → reserved a ≡ Some r) where
   each_script : (s : Script) → MaySend b records s → Keeps reserved at_power_on [] (steps s)
   unfolding Keeps
-  each_script Open may = (refl, never, λ h w. (refl, never, λ h w. (refl, never, λ h w. (refl, never, λ h w. (refl, never, λ h w. tt)))))
-  each_script (Call r cs) may = (
-    refl,
-    never,
-    λ h w. (
-      refl,
-      never,
-      λ h w. (
-        refl,
-        never,
-        λ h w. (
-          refl,
-          never,
-          λ h w. (
-            refl,
-            never,
-            λ h w. (
-              refl,
-              never,
-              λ h w.
-                  all_asking reserved _ _ cs may.0,
-            ),
-          ),
-        ),
-      ),
-    ),
-  )
-  each_script (Draw high middle) may = (
-    refl,
-    never,
-    λ h w. (
-      refl,
-      never,
-      λ h w. (
-        refl,
-        never,
-        λ h w. (
-          refl,
-          never,
-          λ h w. (
-            refl,
-            never,
-            λ h w.
-                (refl, never, λ h w. (refl, never, λ h w. (refl, never, λ h w. tt))),
-          ),
-        ),
-      ),
-    ),
-  )
-  each_script (Probe r) may = (refl, never, λ h w. (refl, never, λ h w. (refl, never, λ h w. (refl, never, λ h w. tt))))
+  each_script (Call r cs) may =
+      (refl, never, λ h w. (refl, never, λ h w. (refl, never, λ h w. (refl, never, λ h w. (refl, never, λ h w. 
+      (refl, never, λ h w. all_asking reserved _ _ cs may.0))))))
   each_script (Hunt r cs) may = (refl, never, λ h w. (refl, never, λ h w. (refl, never, λ h w. all_asking reserved _ _ cs may.0)))
-  each_script (Look r) may = (refl, never, λ h w. (refl, never, λ h w. (refl, never, λ h w. (refl, λ e. refl, λ h w. (refl, never, λ h w. tt)))))
-  each_script (Give r a) may = (
-    refl,
-    never,
-    λ high w. (
-      refl,
-      never,
-      λ middle w. (
-        refl,
-        never,
-        λ low w. (
-          refl,
-          λ e. refl,
-          λ h vacant. (
-            may_program reserved r a high middle low h vacant (same a (value_of r) may.reserved_for),
-            never,
-            λ h w. (refl, λ e. refl, λ h w. (refl, never, λ h w. tt)),
-          ),
-        ),
-      ),
-    ),
-  )
-  each_script (PassOver r) may = (refl, never, λ h w. (refl, never, λ h w. (refl, never, λ h w. (refl, never, λ h w. tt))))
-  each_script (Resolve a) may = (refl, never, λ h w. (refl, never, λ h w. (refl, never, λ h w. tt)))
-  each_script Close may = (refl, never, λ h w. tt)
-  each_script (ArcPower f) may = (refl, never, λ h w. tt)
+  each_script (Give r a) may = (refl, never, λ high w. (refl, never, λ middle w. (refl, never, λ low w. (refl, λ e. refl, λ h vacant. (
+      may_program reserved r a high middle low h vacant (same a (value_of r) may.reserved_for), never, λ h w. (refl, λ e. refl, λ h w. (
+      refl, never, λ h w. tt)))))))
+  each_script _ may = search rules
 
 -- ---------------------------------------------------------------- the laws
 

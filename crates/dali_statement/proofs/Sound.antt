@@ -12,10 +12,8 @@ pub record Sound (p : Plan) (gs : List Gear) (reserved : ℕ → ℕ → Option 
   pub within : (c a r : ℕ) → reserved c a ≡ Some r → (p.block a ≡ c) × (a < 64) × (r < 0xFFFFFF)
   pub for_gear : (c a r g : ℕ) (x : Gear) → reserved c a ≡ Some r → At gs g x → x.short ≡ Some a → x.random ≡ r
   -- an address that a gear has is one that gear came with, or reserved for its number
-  pub owned : (g a : ℕ) (x : Gear) → At gs g x → x.short ≡ Some a
-      → (list_any (λ y. holds a y.short) p.gear ≡ true) ⊎ ((c : ℕ) × (reserved c a ≡ Some x.random))
-  pub told_of : (q : Part) (a v : ℕ) → a < 64 → told q a v ≡ true
-      → (g : ℕ) × (x : Gear) × At gs g x × (x.short ≡ Some a) × (byte q x.random ≡ v)
+  pub owned : (g a : ℕ) (x : Gear) → At gs g x → x.short ≡ Some a → (list_any (λ y. holds a y.short) p.gear ≡ true) ⊎ ((c : ℕ) × (reserved c a ≡ Some x.random))
+  pub told_of : (q : Part) (a v : ℕ) → a < 64 → told q a v ≡ true → (g : ℕ) × (x : Gear) × At gs g x × (x.short ≡ Some a) × (byte q x.random ≡ v)
   pub tables : (c a r : ℕ) → enrolled c a r ≡ true → (g : ℕ) × (x : Gear) × At gs g x × (x.short ≡ Some a) × (x.random ≡ r)
 
 -- ---------------------------------------------------------------- gear and numbers

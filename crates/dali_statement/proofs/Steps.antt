@@ -47,8 +47,7 @@ module _ (p : Plan) (s : Site) (safe : Safe p s) where
           by (new_by s took.0 took.1 took.2 a x (few took.0) (safe.knows took.0 g x there) took.3 (ap (λ z. z.short) (sym took.4) ∙ is)) where
             by : (x.short ≡ Some a) ⊎ (Given s took.0 a x × ((takes took.1 took.2 x).random ≡ x.random))
                 → (y.random ≡ x.random) × ((x.short ≡ Some a) ⊎ ((d : ℕ) × (s.reserved d a ≡ Some x.random)))
-            by (inl had) =
-                (ap (λ z. z.random) took.4 ∙ (kept_by s took.0 took.1 took.2 a x (few took.0) (safe.knows took.0 g x there) took.3 had).1, inl had)
+            by (inl had) = (ap (λ z. z.random) took.4 ∙ (kept_by s took.0 took.1 took.2 a x (few took.0) (safe.knows took.0 g x there) took.3 had).1, inl had)
             by (inr new) = (ap (λ z. z.random) took.4 ∙ new.1, inr (took.0, new.0))
 
     pub took_moves : Moves s.reserved s.gear hs
@@ -81,8 +80,7 @@ module _ (p : Plan) (s : Site) (safe : Safe p s) where
         → At (gear_after (Sent m ws reach) s.gear) g y → Knows ((m, h) ∷ s.said c) y
     frame_knows apart c h may heard g y at = let was = taken m ws reach s.gear g y at in go was.0 was.1 was.2 where
       go : (x : Gear) → At s.gear g x → Takes m x y → Knows ((m, h) ∷ s.said c) y
-      go x there (inl missed) =
-          subst (λ z. Knows ((m, h) ∷ s.said c) z) (sym missed.1) (knows_missed (s.said c) m h x missed.0 (safe.knows c g x there))
+      go x there (inl missed) = subst (λ z. Knows ((m, h) ∷ s.said c) z) (sym missed.1) (knows_missed (s.said c) m h x missed.0 (safe.knows c g x there))
       go x there (inr took) = subst (λ z. Knows ((m, h) ∷ s.said c) z) (sym took.1) (knows_after s c m h took.0 x (safe.sound.short g x there)
           (safe.knows c g x there) may (heard_of apart c m h heard g x there))
 
@@ -166,8 +164,7 @@ abbrev pub told_so : Told → ℕ → ℕ → Bool
 told_so told a r = nat_lt a 64 && (told High a (byte High r) && (told Middle a (byte Middle r) && told Low a (byte Low r)))
 
 abbrev pub IsTrue : Told → List Gear → Type 0
-IsTrue told gs =
-    (q : Part) (a v : ℕ) → a < 64 → told q a v ≡ true → (g : ℕ) × (x : Gear) × At gs g x × (x.short ≡ Some a) × (byte q x.random ≡ v)
+IsTrue told gs = (q : Part) (a v : ℕ) → a < 64 → told q a v ≡ true → (g : ℕ) × (x : Gear) × At gs g x × (x.short ≡ Some a) × (byte q x.random ≡ v)
 
 pub told_by : (p : Plan) (s : Site) → Safe p s → (told : Told) → IsTrue told s.gear → (a r : ℕ) → told_so told a r ≡ true
     → (g : ℕ) × (x : Gear) × At s.gear g x × (x.short ≡ Some a) × (x.random ≡ r)

@@ -52,8 +52,7 @@ pub holds_by : (n : ℕ) (o : Option ℕ) → o ≡ Some n → holds n o ≡ tru
 holds_by n None e = absurd (cc)
 holds_by n (Some m) e = equals m n (some_is e)
 
-pub any_at : {A : Type 0} (test : A → Bool) (xs : List A) → list_any test xs ≡ true
-    → (i : ℕ) × (x : A) × (slice_get xs i ≡ Some x) × (test x ≡ true)
+pub any_at : {A : Type 0} (test : A → Bool) (xs : List A) → list_any test xs ≡ true → (i : ℕ) × (x : A) × (slice_get xs i ≡ Some x) × (test x ≡ true)
 any_at {A} test [] e = absurd (cc)
 any_at {A} test (y ∷ ys) e = go (either (test y) (list_any test ys) e) (any_at test ys) where
   go : (test y ≡ true) ⊎ (list_any test ys ≡ true)
@@ -76,8 +75,7 @@ all_at {A} test (y ∷ ys) zero x e at = ap test (sym (some_is at)) ∙ first_of
 all_at {A} test (y ∷ ys) (suc i) x e at = all_at test ys i x (second_of_both (test y) (list_all test ys) e) at
 
 -- a number that stands in a list by places
-mapped : {A : Type 0} (key : A → Option ℕ) (xs : List A) (i n : ℕ) (x : A) → slice_get xs i ≡ Some x → key x ≡ Some n
-    → list_any (holds n) (map key xs) ≡ true
+mapped : {A : Type 0} (key : A → Option ℕ) (xs : List A) (i n : ℕ) (x : A) → slice_get xs i ≡ Some x → key x ≡ Some n → list_any (holds n) (map key xs) ≡ true
 mapped {A} key [] i n x at e = absurd (cc)
 mapped {A} key (y ∷ ys) zero n x at e = first_of_either (holds n (key y)) _ (holds_by n (key y) (ap key (some_is at) ∙ e))
 mapped {A} key (y ∷ ys) (suc i) n x at e = go (holds n (key y)) (mapped key ys i n x at e) where

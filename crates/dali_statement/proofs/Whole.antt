@@ -153,8 +153,7 @@ goes_by p s (Expires reach) safe apart allow =
     stop_goes p s (λ n g. record g { live = false }) (record { live = λ n x. refl; short = λ n x. refl; random = λ n x. refl }) reach safe apart
 
 pub goes : (p : Plan) (s : Site) (m : Moment) → Safe p s → (are_apart s.gear && allowed p s m) ≡ true → Goes p s (happens s m)
-goes p s m safe allow =
-    goes_by p s m safe (first_of_both (are_apart s.gear) (allowed p s m) allow) (second_of_both (are_apart s.gear) (allowed p s m) allow)
+goes p s m safe allow = goes_by p s m safe (first_of_both (are_apart s.gear) (allowed p s m) allow) (second_of_both (are_apart s.gear) (allowed p s m) allow)
 
 -- ---------------------------------------------------------------- the beginning
 
@@ -162,11 +161,9 @@ pub starts : (p : Plan) → IsPlan p → Safe p (start p)
 starts p plan = record {
   sound = record {
     once = λ g h a x y at there is same. differ_at (λ z. z.short) p.gear plan.shorts g h a x y at there is same;
-    short = λ g x at a is. below a 64
-        (ap (λ o. nat_lt (unwrap_or o 0) 64) (sym is) ∙ all_at (λ z. nat_lt (unwrap_or z.short 0) 64) p.gear g x plan.short at);
+    short = λ g x at a is. below a 64 (ap (λ o. nat_lt (unwrap_or o 0) 64) (sym is) ∙ all_at (λ z. nat_lt (unwrap_or z.short 0) 64) p.gear g x plan.short at);
     within = λ c a r e. let has = plan.reserved c a r e in (has.0, has.1, has.2);
-    for_gear = λ c a r g x e at is. for_gear a r x is
-        (all_at (λ z. not (holds a z.short) || (z.random == r)) p.gear g x (plan.reserved c a r e).3 at);
+    for_gear = λ c a r g x e at is. for_gear a r x is (all_at (λ z. not (holds a z.short) || (z.random == r)) p.gear g x (plan.reserved c a r e).3 at);
     owned = λ g a x at is. inl (any_by (λ z. holds a z.short) p.gear g x at (holds_by a x.short is));
     told_of = λ q a v small e. absurd (never e);
     tables = λ c a r e. let any = any_at (λ z. holds a z.short && (z.random == r)) p.gear (plan.enrolled c a r e) in
@@ -187,8 +184,7 @@ starts p plan = record {
 
 pub safe_after : (p : Plan) (ms : List Moment) (s : Site) → Safe p s → all_allowed p s ms ≡ true → Safe p (after s ms)
 safe_after p [] s safe allow = safe
-safe_after p (m ∷ ms) s safe allow =
-    safe_after p ms (happens s m) (goes p s m safe (first_of_both _ _ allow)).safe (second_of_both _ _ allow)
+safe_after p (m ∷ ms) s safe allow = safe_after p ms (happens s m) (goes p s m safe (first_of_both _ _ allow)).safe (second_of_both _ _ allow)
 
 keeps : (s t : Site) → Moves s.reserved s.gear t.gear → KeepsAddresses s t
 keeps s t moves g a r held = let to = moves.to g a held.0 held.1 held.2 in (to.0, to.1, to.2, to.3 ∙ held.3)
@@ -274,8 +270,7 @@ keeps_now p s safe = record {
 
 pub every_history_keeps_the_promise : (p : Plan) (ms : List Moment) → IsHistory p ms → KeepsPromise p ms
 every_history_keeps_the_promise p ms history = record {
-  always = λ earlier more is. keeps_now p (after (start p) earlier)
-      (safe_after p earlier (start p) (starts p history.0) (front earlier more is));
+  always = λ earlier more is. keeps_now p (after (start p) earlier) (safe_after p earlier (start p) (starts p history.0) (front earlier more is));
   ever_after = λ earlier later rest is. subst (λ t. KeepsAddresses (after (start p) earlier) t) (sym (after_both earlier later (start p)))
       (keeps_after p later (after (start p) earlier) (safe_after p earlier (start p) (starts p history.0) (front earlier (later ++ rest) is))
       (allowed_front p later rest (after (start p) earlier) (allowed_rest p earlier (later ++ rest) (start p) (whole earlier (later ++ rest) is))));

@@ -90,43 +90,7 @@ searches = record {
   unbroken = (tt, (tt, (tt, tt)));
   complete = record { owner = refl; opening = (refl, tt, (refl, tt, (refl, tt, (refl, tt, refl)))); last = refl };
   calm_since = (tt, (tt, (λ e. cc, (λ e. cc, (λ e. cc, (λ e. cc, (λ e. cc, (λ e. cc, (λ e. cc, (λ e. cc, (λ e. cc, (λ e. cc, tt))))))))))));
-  nobody_passed = (
-    tt,
-    (
-      tt,
-      (
-        λ e. let a = e.0 in let b = e.1.1 in cc,
-        (
-          λ e. let a = e.0 in let b = e.1.1 in cc,
-          (
-            λ e. let a = e.0 in let b = e.1.1 in
-                cc,
-            (
-              λ e. let a = e.0 in let b = e.1.1 in
-                  cc,
-              (
-                λ e. let a = e.0 in let b = e.1.1 in
-                    cc,
-                (
-                  λ e. let a = e.0 in let b = e.1.1 in
-                      cc,
-                  (
-                    λ e. let a = e.0 in let b = e.1.1 in
-                        cc,
-                    (
-                      λ e. let a = e.0 in let b = e.1.1 in
-                          cc,
-                      (λ e. let a = e.0 in let b = e.1.1 in cc, (λ e. let a = e.0 in let b = e.1.1 in cc, tt)),
-                    ),
-                  ),
-                ),
-              ),
-            ),
-          ),
-        ),
-      ),
-    ),
-  );
+  nobody_passed = (tt, (tt, (λ e. cc, (λ e. cc, (λ e. cc, (λ e. cc, (λ e. cc, (λ e. cc, (λ e. cc, (λ e. cc, (λ e. cc, (λ e. cc, tt))))))))))));
   compare_sent = refl;
   searched = (_, refl);
   highest = refl;
@@ -137,10 +101,6 @@ unfolding command_of stage_of
 nobody_answers = refl
 
 -- the gear has the address that it was given
-gifts : (after plan 8 log).gifts ≡ (0, 0) ∷ []
+gifts : ((after plan 8 log).gifts ≡ (0, 0) ∷ []) × ((gear_at (after plan 8 log) 0).short ≡ Some 0)
 unfolding command_of stage_of
-gifts = refl
-
-holds : (gear_at (after plan 8 log) 0).short ≡ Some 0
-unfolding command_of stage_of
-holds = refl
+gifts = (refl, refl)

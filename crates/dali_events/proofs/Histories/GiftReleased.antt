@@ -4,8 +4,8 @@ use Rattle.dali_special.specs.Command.{command_of}
 use Rattle.dali_script.specs.{Findings.assigned, Records.MayAdd, Stages.stage_of, declared.{finding.Finding.{Finding, TheVariants.Queried}, orders.Input.Input}}
 use Rattle.dali_script.specs.declared.{orders.Order.TheVariants.Commit, records.Record.TheVariants.Release}
 use Rattle.dali_events.specs.{Allowed.{Allowed, IsUp, IsDue}, Happens.{happens, controller_informed}, Plan.Plan, Promise.KeepsPromiseNow, Runs.after}
-use Rattle.dali_events.{specs.{World.{World, controller_at, gear_at, start}, declared.event.Event.Event}, proofs.Histories.Openings.{first_block, at_123456}}
-use Rattle.dali_events.proofs.Histories.{Openings.{at_0abcde, query, opening, visit, two_gear}, Tested.{is_allowed, allowed_by, EachIs, after_each}}
+use Rattle.dali_events.{specs.{World.{World, controller_at, start}, declared.event.Event.Event}, proofs.Histories.Openings.{first_block, at_123456}}
+use Rattle.dali_events.proofs.Histories.{Openings.{at_0abcde, query, opening, visit, BothHold, breaks}, Tested.{is_allowed, allowed_by, EachIs, after_each}}
 use Rattle.dali_events.proofs.Histories.Tested.{each_passes, each_is_by, each_is_after}
 use Rattle.dali_script.specs.declared.orders.Input.TheVariants as input
 use Rattle.dali_events.specs.declared.event.Event.TheVariants as event
@@ -72,10 +72,9 @@ allowed =
     )
 
 -- both gear hold the address 0
-both_hold : ((gear_at (after plan 8 giving_again) 0).short ≡ Some 0) × ((gear_at (after plan 8 giving_again) 1).short ≡ Some 0)
+both_hold : BothHold (after plan 8 giving_again)
 unfolding command_of stage_of
-both_hold = (refl, refl)
+both_hold = (lit< tt, refl, refl)
 
 breaks_promise : KeepsPromiseNow (after plan 8 giving_again) → ⊥
-unfolding command_of stage_of
-breaks_promise kept = two_gear 0 1 refl refl (kept.one_gear 0 1 0 (lit< tt, refl) (lit< tt, refl))
+breaks_promise = breaks (after plan 8 giving_again) both_hold

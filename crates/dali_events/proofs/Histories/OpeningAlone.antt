@@ -28,11 +28,10 @@ is_randomise _ = false
 
 -- some of it was sent, and more of it may follow
 abbrev goes_on_alone : List Entry → Bool
-goes_on_alone [] = false
 goes_on_alone (a ∷ []) = is_initialise (command_of a.frame)
 goes_on_alone (a ∷ b ∷ []) = is_initialise (command_of a.frame) && is_initialise (command_of b.frame)
 goes_on_alone (a ∷ b ∷ c ∷ []) = is_initialise (command_of a.frame) && is_initialise (command_of b.frame) && is_randomise (command_of c.frame)
-goes_on_alone (a ∷ b ∷ c ∷ d ∷ t) = false
+goes_on_alone _ = false
 
 abbrev sent_or_alone : World → ℕ → Forward → Answer → List Entry → Bool → World
 sent_or_alone w c f h t more = record (taken_by w Everyone (command_of f)) {
@@ -71,8 +70,7 @@ AllAllowedOrAlone w es = EachIs AllowedOrAlone happens_or_alone w es
 -- what the rules allow it allows
 sends_too : (w : World) (c : ℕ) (f : Forward) → MaySend w c f → MaySendOrAlone w c f
 sends_too w c f (inl owner) = inl (owner.0, inl owner.1)
-sends_too w c f (inr free) =
-    inr (free.0, inl (first_for_all (controller_at w c).records.block (controller_at w c).records.reserved f free.1))
+sends_too w c f (inr free) = inr (free.0, inl (first_for_all (controller_at w c).records.block (controller_at w c).records.reserved f free.1))
 
 allowed_too : (w : World) (e : Event) → Allowed w e → AllowedOrAlone w e
 allowed_too w (event.Sent c f h) here = record { up = here.up; may = sends_too w c f here.may; draws = here.draws; heard = here.heard }
@@ -93,34 +91,22 @@ drawing_again = silent 0 0xA5 0xFF ∷ silent 0 0xA5 0xFF ∷ silent 0 0xA7 0 �
 
 given_by_rules : AllAllowedOrAlone (start plan 8) giving
 unfolding command_of stage_of
-given_by_rules =
-    each_is_by AllowedOrAlone is_allowed happens_or_alone (λ w e pass. allowed_too w e (allowed_by w e pass)) (start plan 8) giving refl
+given_by_rules = each_is_by AllowedOrAlone is_allowed happens_or_alone (λ w e pass. allowed_too w e (allowed_by w e pass)) (start plan 8) giving refl
 
 allowed : AllAllowedOrAlone (start plan 8) (giving ++ drawing_again)
 unfolding command_of stage_of
 allowed =
     each_is_after AllowedOrAlone happens_or_alone (start plan 8) giving drawing_again given_by_rules (
-      record { up = record { known = lit< tt; up = refl }; may = inr (refl, inr refl); draws = lit≤ tt; heard = tt },
-      (
-        record { up = record { known = lit< tt; up = refl }; may = inl (refl, inr (refl, tt, refl)); draws = lit≤ tt; heard = tt },
-        (
-          record { up = record { known = lit< tt; up = refl }; may = inl (refl, inr (refl, tt, (refl, tt, refl))); draws = lit≤ tt; heard = tt },
-          (
-            record { up = record { known = lit< tt; up = refl }; may = inl (refl, inr (refl, tt, (refl, tt, (refl, tt, refl)))); draws = lit≤ tt; heard = tt },
-            tt,
-          ),
-        ),
-      ),
-    )
+      record { up = record { known = lit< tt; up = refl }; may = inr (refl, inr refl); draws = lit≤ tt; heard = tt }, (
+      record { up = record { known = lit< tt; up = refl }; may = inl (refl, inr (refl, tt, refl)); draws = lit≤ tt; heard = tt }, (
+      record { up = record { known = lit< tt; up = refl }; may = inl (refl, inr (refl, tt, (refl, tt, refl))); draws = lit≤ tt; heard = tt }, (
+      record { up = record { known = lit< tt; up = refl }; may = inl (refl, inr (refl, tt, (refl, tt, (refl, tt, refl)))); draws = lit≤ tt; heard = tt }, tt))))
 
 -- the gear was given address 0 at 123456, and then has another random address
-given : (after_or_alone (start plan 8) giving).gifts ≡ (0, 0) ∷ []
+given : ((after_or_alone (start plan 8) giving).gifts ≡ (0, 0) ∷ [])
+    × ((after_or_alone (start plan 8) (giving ++ drawing_again)).drawn ≡ (0, 0x123456) ∷ (0, 0x0ABCDE) ∷ [])
 unfolding command_of stage_of
-given = refl
-
-drew : (after_or_alone (start plan 8) (giving ++ drawing_again)).drawn ≡ (0, 0x123456) ∷ (0, 0x0ABCDE) ∷ []
-unfolding command_of stage_of
-drew = refl
+given = (refl, refl)
 
 random_changes : KeepsGifts (after_or_alone (start plan 8) giving) (after_or_alone (start plan 8) (giving ++ drawing_again)) → ⊥
 unfolding command_of stage_of

@@ -1,8 +1,8 @@
-use Rattle.std.proofs.Common.{◌≡◌, ℕ, List, [], ◌∷◌, ◌++◌, arith}
+use Rattle.std.proofs.Common.{◌≡◌, ℕ, ◌<◌, List, [], ◌∷◌, ◌++◌, length, Some, arith}
 use Rattle.dali_frame.specs.{Random.value_of, Short.code_of, declared.{frames.Answer.TheVariants.{Silence, Byte}, numbers.SearchAddress.SearchAddress}}
 use Rattle.dali_special.specs.Command.{frame}
 use Rattle.dali_script.specs.declared.{block.Block.Block, orders.{Input.Input, Order.TheVariants.{Put, Commit}}, records.Record.TheVariants.Reserve}
-use Rattle.dali_events.specs.declared.event.Event.{Event}
+use Rattle.dali_events.specs.{Promise.KeepsPromiseNow, World.{World, gear_at}, declared.event.Event.Event}
 use Rattle.dali_script.specs.declared.orders.Input.TheVariants as input
 use Rattle.dali_events.specs.declared.event.Event.TheVariants as event
 
@@ -46,9 +46,13 @@ visit c i r a =
     silent c 0xB7 (code_of a) ∷
     []
 
--- gear 0 and gear 1 are two, and so are the numbers
-pub two_gear : (g h : ℕ) → g ≡ 0 → h ≡ 1 → g ≡ h → ⊥
-two_gear g h zero one same = omega arith
+-- gear 0 and gear 1 both hold the address 0, and so the promise is broken
+abbrev pub BothHold : World → Type 0
+BothHold w = (1 < length w.gear) × ((gear_at w 0).short ≡ Some 0) × ((gear_at w 1).short ≡ Some 0)
 
+pub breaks : (w : World) → BothHold w → KeepsPromiseNow w → ⊥
+breaks w both kept = let same = kept.one_gear 0 1 0 (omega arith, both.1) (both.0, both.2) in cc
+
+-- the numbers are two
 pub two_numbers : (n : ℕ) → n ≡ 0x0ABCDE → n ≡ 0x123456 → ⊥
 two_numbers n first second = omega arith

@@ -61,24 +61,15 @@ calm_since : AreCalm middle
 unfolding command_of
 calm_since = (λ e. absurd (cc), (λ e. absurd (cc), (λ e. absurd (cc), (λ e. absurd (cc), (λ e. absurd (cc), (λ e. absurd (cc), (λ e. absurd (cc), tt)))))))
 
-highest : value_of (search_of (trace_running searching 0)) ≡ HIGHEST
+highest : (value_of (search_of (trace_running searching 0)) ≡ HIGHEST) × ((r : SearchAddress) × (number_at (stage_of (trace_running searching 0)) ≡ Some r))
 unfolding command_of stage_of
-highest = refl
-
-searched : (r : SearchAddress) × (number_at (stage_of (trace_running searching 0)) ≡ Some r)
-unfolding command_of stage_of
-searched = (record { high = 0xFF; middle = 0xFF; low = 0xFE }, refl)
+highest = (refl, (record { high = 0xFF; middle = 0xFF; low = 0xFE }, refl))
 
 -- ---------------------------------------------------------------- and what comes of it
 
-silence : NobodyAnswers searching
+silence : (NobodyAnswers searching) × (((gear_at searching 0).powered ≡ true) × ((gear_at searching 0).short ≡ None))
 unfolding command_of stage_of
-silence = refl
-
--- the gear has power and no short address
-left : ((gear_at searching 0).powered ≡ true) × ((gear_at searching 0).short ≡ None)
-unfolding command_of stage_of
-left = (refl, refl)
+silence = (refl, (refl, refl))
 
 not_all : EachPowered searching HasShort → ⊥
 unfolding command_of stage_of

@@ -1,12 +1,12 @@
-use Rattle.std.proofs.Common.{◌≡◌, List, [], ◌∷◌, ◌++◌, refl, inl, lit<, Some}
+use Rattle.std.proofs.Common.{◌≡◌, List, [], ◌∷◌, ◌++◌, refl, inl, lit<}
 use Rattle.dali_frame.specs.declared.frames.Answer.TheVariants.{Silence}
 use Rattle.dali_special.specs.Command.{command_of, frame}
 use Rattle.dali_gear.specs.Gear.{fresh}
 use Rattle.dali_script.specs.Stages.{stage_of}
 use Rattle.dali_script.specs.declared.orders.Input.TheVariants as input
-use Rattle.dali_events.specs.{Plan.Plan, Promise.KeepsPromiseNow, Promise.IsSafe, Runs.after, Runs.after_all, Runs.AllAllowed, World.World, World.gear_at}
-use Rattle.dali_events.{specs.World.start, specs.declared.event.Event.Event, proofs.Histories.Openings.first_block, proofs.Histories.Openings.at_123456}
-use Rattle.dali_events.proofs.Histories.{Openings.at_0abcde, Openings.up_to_draw, Openings.opening, Openings.visit, Openings.two_gear, Tested.all_allowed_by}
+use Rattle.dali_events.specs.{Plan.Plan, Promise.{KeepsPromiseNow, IsSafe}, Runs.{after, after_all, AllAllowed}, World.{World, start}}
+use Rattle.dali_events.specs.{declared.event.Event.Event}
+use Rattle.dali_events.proofs.Histories.{Openings.{first_block, at_123456, at_0abcde, up_to_draw, opening, visit, BothHold, breaks}, Tested.all_allowed_by}
 use Rattle.dali_events.specs.declared.event.Event.TheVariants as event
 
 -- PLAN AND FACTORY MATTER. Two plans that are refused, and a gear that does not come from the factory; each with a list of
@@ -21,13 +21,9 @@ twice_drawn = record { gear = 2; blocks = first_block ∷ []; draws = 0x123456 �
 abbrev giving_two : List Event
 giving_two = opening 0 ++ visit 0 (input.Heard Silence) at_123456 0
 
-twice_drawn_allowed : AllAllowed (start twice_drawn 8) giving_two
+twice_drawn_allowed : (AllAllowed (start twice_drawn 8) giving_two) × ((after twice_drawn 8 giving_two).gifts ≡ (0, 0) ∷ (1, 0) ∷ [])
 unfolding command_of stage_of
-twice_drawn_allowed = all_allowed_by (start twice_drawn 8) giving_two refl
-
-twice_drawn_gifts : (after twice_drawn 8 giving_two).gifts ≡ (0, 0) ∷ (1, 0) ∷ []
-unfolding command_of stage_of
-twice_drawn_gifts = refl
+twice_drawn_allowed = (all_allowed_by (start twice_drawn 8) giving_two refl, refl)
 
 -- both gear were given the address 0
 twice_drawn_is_unsafe : IsSafe (after twice_drawn 8 giving_two) → ⊥
@@ -43,13 +39,9 @@ overlapping = record { gear = 2; blocks = first_block ∷ first_block ∷ []; dr
 abbrev giving_each : List Event
 giving_each = giving_two ++ (event.Lapsed ∷ visit 1 input.Start at_0abcde 0)
 
-overlapping_allowed : AllAllowed (start overlapping 8) giving_each
+overlapping_allowed : (AllAllowed (start overlapping 8) giving_each) × ((after overlapping 8 giving_each).gifts ≡ (0, 0) ∷ (1, 0) ∷ [])
 unfolding command_of stage_of
-overlapping_allowed = all_allowed_by (start overlapping 8) giving_each refl
-
-overlapping_gifts : (after overlapping 8 giving_each).gifts ≡ (0, 0) ∷ (1, 0) ∷ []
-unfolding command_of stage_of
-overlapping_gifts = refl
+overlapping_allowed = (all_allowed_by (start overlapping 8) giving_each refl, refl)
 
 overlapping_is_unsafe : IsSafe (after overlapping 8 giving_each) → ⊥
 unfolding command_of stage_of
@@ -72,10 +64,9 @@ with_erased_allowed : AllAllowed with_erased giving_both
 unfolding command_of stage_of
 with_erased_allowed = all_allowed_by with_erased giving_both refl
 
-both_hold : ((gear_at (after_all with_erased giving_both) 0).short ≡ Some 0) × ((gear_at (after_all with_erased giving_both) 1).short ≡ Some 0)
+both_hold : BothHold (after_all with_erased giving_both)
 unfolding command_of stage_of
-both_hold = (refl, refl)
+both_hold = (lit< tt, refl, refl)
 
 with_erased_is_unsafe : KeepsPromiseNow (after_all with_erased giving_both) → ⊥
-unfolding command_of stage_of
-with_erased_is_unsafe kept = two_gear 0 1 refl refl (kept.one_gear 0 1 0 (lit< tt, refl) (lit< tt, refl))
+with_erased_is_unsafe = breaks (after_all with_erased giving_both) both_hold

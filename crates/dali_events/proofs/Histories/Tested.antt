@@ -1,6 +1,6 @@
 use Rattle.std.proofs.Common.{◌≡◌, ◌⊎◌, inl, inr, ℕ, ◌<◌, ◌≤◌, Bool, true, false, List, [], ◌∷◌, ◌++◌, length, Option, Some, None, is_none, refl, ap, arith}
 use Rattle.std.{proofs.{Common.{◌==◌, ◌&&◌, not, if◌then◌else◌, nat_lt, nat_le}, lemmas.Bool.Decides.nat_tests}, specs.List.AllByRecursion}
-use Rattle.dali_frame.specs.{Priority.{FIRST, LATER}, Random.MASK24, declared.frames.{Answer.{Answer, TheVariants.{Silence, Byte, Damaged}}, Forward.Forward}}
+use Rattle.dali_frame.specs.{Priority.{FIRST, LATER}, Random.MASK24, declared.frames.{Answer.{Answer, TheVariants.{Silence, Byte}}, Forward.Forward}}
 use Rattle.dali_special.specs.Command.{command_of}
 use Rattle.dali_gear.specs.{Row.{draws_needed, answers_of}, declared.row.Reach.{Reach, TheVariants.{Everyone, Only}}}
 use Rattle.dali_arbiter.specs.Arbiter.{owns}
@@ -85,31 +85,21 @@ heard_by v [] e = absurd (cc)
 heard_by v (u ∷ us) e = (λ same. cc, each_by v (u ∷ us) e)
 
 abbrev pub may_hear : List ℕ → Answer → Bool
-may_hear answers Silence = true
-may_hear answers Damaged = true
 may_hear answers (Byte v) = heard_as v answers
+may_hear answers _ = true
 
 hears_by : (answers : List ℕ) (h : Answer) → may_hear answers h ≡ true → Hears answers h
-hears_by answers Silence e = tt
-hears_by answers Damaged e = tt
 hears_by answers (Byte v) e = heard_by v answers e
+hears_by answers _ e = tt
 
 -- ---------------------------------------------------------------- a controller acts
 
 abbrev pub same_input : Input → Input → Bool
 same_input input.Start input.Start = true
-same_input input.Start _ = false
-same_input input.Survey _ = false
 same_input (input.Heard Silence) (input.Heard Silence) = true
-same_input (input.Heard Silence) _ = false
 same_input (input.Heard (Byte u)) (input.Heard (Byte v)) = u == v
-same_input (input.Heard (Byte u)) _ = false
-same_input (input.Heard Damaged) _ = false
 same_input input.Destroyed input.Destroyed = true
-same_input input.Destroyed _ = false
-same_input input.Lapsed _ = false
-same_input input.Committed _ = false
-same_input input.CommitFailed _ = false
+same_input _ _ = false
 
 same_by : (i j : Input) → same_input i j ≡ true → i ≡ j
 same_by input.Start input.Start e = refl
@@ -225,8 +215,7 @@ is_allowed w (event.Up c kept) = is_down w c && not kept
 is_allowed w _ = false
 
 sender_by : (w : World) (c : ℕ) (f : Forward) → is_sent w c f ≡ true → IsUp w c × MaySend w c f
-sender_by w c f e =
-    (up_by w c (first_of_both _ _ e), may_send_by w.bus.owner (controller_at w c).records w.trace c f (second_of_both _ _ e))
+sender_by w c f e = (up_by w c (first_of_both _ _ e), may_send_by w.bus.owner (controller_at w c).records w.trace c f (second_of_both _ _ e))
 
 pub allowed_by : (w : World) (e : Event) → is_allowed w e ≡ true → Allowed w e
 allowed_by w (event.Acted c i o) e =
@@ -273,8 +262,7 @@ each_passes test moves s (e ∷ es) = test s e && each_passes test moves (moves 
 pub each_is_by : {S : Type 0} (P : S → Event → Type 0) (test : S → Event → Bool) (moves : S → Event → S) → ((s : S) (e : Event) → test s e ≡ true → P s e)
     → (s : S) (es : List Event) → each_passes test moves s es ≡ true → EachIs P moves s es
 each_is_by P test moves by s [] passes = tt
-each_is_by P test moves by s (e ∷ es) passes =
-    (by s e (first_of_both _ _ passes), each_is_by P test moves by (moves s e) es (second_of_both _ _ passes))
+each_is_by P test moves by s (e ∷ es) passes = (by s e (first_of_both _ _ passes), each_is_by P test moves by (moves s e) es (second_of_both _ _ passes))
 
 -- one history after another
 pub each_is_after : {S : Type 0} (P : S → Event → Type 0) (moves : S → Event → S) (s : S) (es fs : List Event) → EachIs P moves s es

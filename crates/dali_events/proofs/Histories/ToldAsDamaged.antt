@@ -5,7 +5,8 @@ use Rattle.dali_script.specs.{Stages.stage_of, declared.{orders.Order.TheVariant
 use Rattle.dali_script.proofs.Giving.{first_of_both, second_of_both}
 use Rattle.dali_events.specs.{Allowed.{Allowed, IsDestroyed}, Plan.Plan, Promise.KeepsPromiseNow, Runs.after, Telling.{Happening, rightly, as_damaged}}
 use Rattle.dali_events.specs.{Telling.{happened, AllMayHappen, after_happened, all_told}, World.{World, gear_at, start}}
-use Rattle.dali_events.proofs.Histories.{Openings.{first_block, second_block, at_123456, silent, query, opening, two_gear}, Tested.{is_allowed, allowed_by}}
+use Rattle.dali_events.proofs.Histories.Openings.{first_block, second_block, at_123456, silent, query, opening, BothHold, breaks}
+use Rattle.dali_events.proofs.Histories.Tested.{is_allowed, allowed_by}
 use Rattle.dali_script.specs.declared.orders.Input.TheVariants as input
 use Rattle.dali_events.specs.declared.event.Event.TheVariants as event
 
@@ -45,12 +46,7 @@ two_controllers = record { gear = 1; blocks = first_block ∷ second_block ∷ [
 -- controller 0 goes down between the two INITIALISE; controller 1 asks short address 0 for its random address, the question is
 -- destroyed, no gear takes it, and its answer is told as damaged
 abbrev asking : List Happening
-asking =
-    rightly (silent 0 0xA1 0) ∷
-    rightly (silent 0 0xA5 0xFF) ∷
-    rightly (event.Down 0) ∷
-    as_damaged 1 (frame 0x01 0xC2) 0 ∷
-    []
+asking = rightly (silent 0 0xA1 0) ∷ rightly (silent 0 0xA5 0xFF) ∷ rightly (event.Down 0) ∷ as_damaged 1 (frame 0x01 0xC2) 0 ∷ []
 
 may_happen : AllMayHappen (start two_controllers 8) asking
 unfolding command_of stage_of
@@ -59,13 +55,10 @@ may_happen =
     (each.0, (each.1.0, (each.1.1.0, ((each.1.1.1.0, refl), tt))))
 
 -- the gear has its half pair still, and in the run of what was told it has none
-half_is_left : (gear_at (after_happened two_controllers 8 asking) 0).half ≡ Some (Initialise Unaddressed)
+half_is_left : ((gear_at (after_happened two_controllers 8 asking) 0).half ≡ Some (Initialise Unaddressed))
+    × ((gear_at (after two_controllers 8 (all_told asking)) 0).half ≡ None)
 unfolding command_of stage_of
-half_is_left = refl
-
-half_is_gone : (gear_at (after two_controllers 8 (all_told asking)) 0).half ≡ None
-unfolding command_of stage_of
-half_is_gone = refl
+half_is_left = (refl, refl)
 
 -- ---------------------------------------------------------------- a search byte
 
@@ -83,26 +76,18 @@ reserving =
 
 -- SEARCHADDRM is destroyed, and gear 0 alone takes it: both gear are searched then, and both store the address
 abbrev giving_both : List Happening
-giving_both =
-    reserving ++
-    (as_damaged 0 (frame 0xB3 0x34) 1 ∷
-    rightly (silent 0 0xB5 0x56) ∷
-    rightly (query 0 0xFF) ∷
-    rightly (silent 0 0xB7 0x01) ∷
-    [])
+giving_both = reserving ++ (as_damaged 0 (frame 0xB3 0x34) 1 ∷ rightly (silent 0 0xB5 0x56) ∷ rightly (query 0 0xFF) ∷ rightly (silent 0 0xB7 0x01) ∷ [])
 
 search_byte_told : AllMayBeTold (start two_gear_alone 8) giving_both
 unfolding command_of stage_of
 search_byte_told = all_told_by (start two_gear_alone 8) giving_both refl
 
-both_hold : ((gear_at (after_happened two_gear_alone 8 giving_both) 0).short ≡ Some 0)
-    × ((gear_at (after_happened two_gear_alone 8 giving_both) 1).short ≡ Some 0)
+both_hold : BothHold (after_happened two_gear_alone 8 giving_both)
 unfolding command_of stage_of
-both_hold = (refl, refl)
+both_hold = (lit< tt, refl, refl)
 
 breaks_promise : KeepsPromiseNow (after_happened two_gear_alone 8 giving_both) → ⊥
-unfolding command_of stage_of
-breaks_promise kept = two_gear 0 1 refl refl (kept.one_gear 0 1 0 (lit< tt, refl) (lit< tt, refl))
+breaks_promise = breaks (after_happened two_gear_alone 8 giving_both) both_hold
 
 -- ---------------------------------------------------------------- PROGRAM SHORT ADDRESS
 
@@ -111,26 +96,17 @@ one_gear_alone = record { gear = 1; blocks = first_block ∷ []; draws = 0x12345
 
 -- it is destroyed, and no gear takes it
 abbrev programming : List Happening
-programming =
-    reserving ++
-    (rightly (silent 0 0xB3 0x34) ∷
-    rightly (silent 0 0xB5 0x56) ∷
-    rightly (query 0 0xFF) ∷
-    as_damaged 0 (frame 0xB7 0x01) 0 ∷
-    [])
+programming = reserving ++ (rightly (silent 0 0xB3 0x34) ∷ rightly (silent 0 0xB5 0x56) ∷ rightly (query 0 0xFF) ∷ as_damaged 0 (frame 0xB7 0x01) 0 ∷ [])
 
 program_told : AllMayBeTold (start one_gear_alone 8) (programming ++ rightly (query 0 0xFF) ∷ [])
 unfolding command_of stage_of
 program_told = all_told_by (start one_gear_alone 8) (programming ++ rightly (query 0 0xFF) ∷ []) refl
 
 -- the gear has no short address, and in the world of what was told it holds one
-holds_none : (gear_at (after_happened one_gear_alone 8 programming) 0).short ≡ None
+holds_none : ((gear_at (after_happened one_gear_alone 8 programming) 0).short ≡ None)
+    × ((gear_at (after one_gear_alone 8 (all_told programming)) 0).short ≡ Some 0)
 unfolding command_of stage_of
-holds_none = refl
-
-told_of_one : (gear_at (after one_gear_alone 8 (all_told programming)) 0).short ≡ Some 0
-unfolding command_of stage_of
-told_of_one = refl
+holds_none = (refl, refl)
 
 -- so what was told is no run: the gear of that world answers 01 to the next QUERY SHORT ADDRESS, and FF is heard
 is_no_run : Allowed (after one_gear_alone 8 (all_told programming)) (query 0 0xFF) → ⊥

@@ -1,10 +1,10 @@
-use Rattle.std.proofs.Common.{◌≡◌, true, false, List, [], ◌∷◌, ◌++◌, Some, refl, lit<}
+use Rattle.std.proofs.Common.{true, false, List, [], ◌∷◌, ◌++◌, refl, lit<}
 use Rattle.dali_frame.specs.declared.frames.{Answer.TheVariants.{Silence, Byte}, Forward.Forward}
 use Rattle.dali_special.specs.Command.{command_of, frame}
 use Rattle.dali_script.specs.{Stages.stage_of, declared.orders.{End.TheVariants.GaveUp, Order.TheVariants.{Put, Commit, Done}}}
 use Rattle.dali_script.specs.declared.records.Record.TheVariants.{Reserve}
-use Rattle.dali_events.specs.{Plan.Plan, Promise.KeepsPromiseNow, Runs.{after, AllAllowed}, World.{gear_at, start}, declared.event.Event.Event}
-use Rattle.dali_events.proofs.Histories.{Openings.{first_block, at_123456, silent, query, opening, visit, two_gear}, Tested.all_allowed_by}
+use Rattle.dali_events.specs.{Plan.Plan, Promise.KeepsPromiseNow, Runs.{after, AllAllowed}, World.{start}, declared.event.Event.Event}
+use Rattle.dali_events.proofs.Histories.{Openings.{first_block, at_123456, silent, query, opening, visit, BothHold, breaks}, Tested.all_allowed_by}
 use Rattle.dali_script.specs.declared.orders.Input.TheVariants as input
 use Rattle.dali_events.specs.declared.event.Event.TheVariants as event
 
@@ -13,12 +13,7 @@ use Rattle.dali_events.specs.declared.event.Event.TheVariants as event
 
 -- gear 0 comes with the address 0; gear 1 comes from the factory
 abbrev one_used : Plan
-one_used = record {
-  gear = 2;
-  blocks = first_block ∷ [];
-  draws = 0x123456 ∷ [];
-  used = record { gear = 0; short = 0; random = 0x0ABCDE } ∷ [];
-}
+one_used = record { gear = 2; blocks = first_block ∷ []; draws = 0x123456 ∷ []; used = record { gear = 0; short = 0; random = 0x0ABCDE } ∷ [] }
 
 -- QUERY RANDOM ADDRESS (H) to the address 0
 abbrev asks : Forward
@@ -43,13 +38,12 @@ off_allowed : AllAllowed (start one_used 8) off_while_asked
 unfolding command_of stage_of
 off_allowed = all_allowed_by (start one_used 8) off_while_asked refl
 
-off_both_hold : ((gear_at (after one_used 8 off_while_asked) 0).short ≡ Some 0) × ((gear_at (after one_used 8 off_while_asked) 1).short ≡ Some 0)
+off_both_hold : BothHold (after one_used 8 off_while_asked)
 unfolding command_of stage_of
-off_both_hold = (refl, refl)
+off_both_hold = (lit< tt, refl, refl)
 
 off_is_unsafe : KeepsPromiseNow (after one_used 8 off_while_asked) → ⊥
-unfolding command_of stage_of
-off_is_unsafe kept = two_gear 0 1 refl refl (kept.one_gear 0 1 0 (lit< tt, refl) (lit< tt, refl))
+off_is_unsafe = breaks (after one_used 8 off_while_asked) off_both_hold
 
 -- ---------------------------------------------------------------- a reservation of before
 
@@ -79,10 +73,9 @@ before_allowed : AllAllowed (start one_used 8) reserved_before
 unfolding command_of stage_of
 before_allowed = all_allowed_by (start one_used 8) reserved_before refl
 
-before_both_hold : ((gear_at (after one_used 8 reserved_before) 0).short ≡ Some 0) × ((gear_at (after one_used 8 reserved_before) 1).short ≡ Some 0)
+before_both_hold : BothHold (after one_used 8 reserved_before)
 unfolding command_of stage_of
-before_both_hold = (refl, refl)
+before_both_hold = (lit< tt, refl, refl)
 
 before_is_unsafe : KeepsPromiseNow (after one_used 8 reserved_before) → ⊥
-unfolding command_of stage_of
-before_is_unsafe kept = two_gear 0 1 refl refl (kept.one_gear 0 1 0 (lit< tt, refl) (lit< tt, refl))
+before_is_unsafe = breaks (after one_used 8 reserved_before) before_both_hold

@@ -9,7 +9,7 @@ use Rattle.dali_events.specs.{Laws.{HasFound, FindingsAgree, IsReservedFor, Keep
 use Rattle.dali_events.specs.{Promise.HoldsShort, Runs.{after, after_all, AllAllowed, IsRun, AreDrawn, LeavesUsed}, Used.gear_of_used, World.{World, gear_at}}
 use Rattle.dali_events.specs.{World.{controller_at, start}, declared.{event.Event.{Event, TheVariants.Sent}, used.Used.Used}}
 use Rattle.dali_events.proofs.Invariant.{Controllers.controllers_count, Drawn.drawn_in_front, Gifts.IsOwned, Growing.{after_both, allowed_front, allowed_rest}}
-use Rattle.dali_events.proofs.Invariant.{Growing.{leaves_front, leaves_rest, last_allowed}, Keeping.records_of, Safe.{Holds, keeps_step, stays_step}}
+use Rattle.dali_events.proofs.Invariant.{Growing.{all_front, leaves_rest, last_allowed}, Keeping.records_of, Safe.{Holds, keeps_step, stays_step}}
 use Rattle.dali_events.proofs.Invariant.{Safe.{holds_step, holds_after, safe, run_front, keeps_promise, finding_named, found_names}, Starting.start_count}
 use Rattle.dali_events.proofs.Invariant.Starting.{stands}
 
@@ -50,7 +50,7 @@ pub reservations_stay : (p : Plan) (capacity : ℕ) (front later rest : List Eve
 reservations_stay p capacity front later rest run =
     let allowed : AllAllowed (after p capacity front) later =
     allowed_front (after p capacity front) later rest (allowed_rest (start p capacity) front (later ++ rest) run.allowed) in
-    let leaves : AllByRecursion (LeavesUsed p.used) later = leaves_front p.used later rest (leaves_rest p.used front (later ++ rest) run.leaves) in
+    let leaves : AllByRecursion (LeavesUsed p.used) later = all_front (LeavesUsed p.used) later rest (leaves_rest p.used front (later ++ rest) run.leaves) in
     subst (λ v. KeepsReserved (after p capacity front) v) (sym (after_both (start p capacity) front later))
     (reserved_stays p run.plan (after p capacity front) later allowed leaves (holds_after p capacity front (run_front p capacity front (later ++ rest) run)))
 
@@ -121,8 +121,7 @@ findings_agree_in p capacity front rest run =
 
 -- RECORDS ARE KEPT
 pub records_kept : (p : Plan) (capacity : ℕ) (front rest : List Event) → IsRun p capacity (front ++ rest) → KeepsRecords p (after p capacity front)
-records_kept p capacity front rest run =
-    records_of p (after p capacity front) (holds_after p capacity front (run_front p capacity front rest run)).keeps
+records_kept p capacity front rest run = records_of p (after p capacity front) (holds_after p capacity front (run_front p capacity front rest run)).keeps
 
 -- A RANDOM ADDRESS IS TOLD BY ITS GEAR
 self : (n : ℕ) → (n == n) ≡ true

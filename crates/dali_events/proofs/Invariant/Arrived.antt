@@ -7,8 +7,7 @@ use Rattle.dali_events.proofs.Invariant.Starting.{IsUsedOrFresh, row_at, start_c
 -- WHAT HOLDS OF GIFTS AT THE START: the addresses of used gear count as given before.
 held : (p : Plan) (g a : ℕ) → IsUsedOrFresh p g → (get_or (with_used (replicate p.gear fresh) p.used) g fresh).short ≡ Some a
     → Has {A = ℕ × ℕ} (map earlier_gift p.used) (g, a)
-held p g a (inl k) e =
-    given_at p k.0 g a k.1 k.2 (let same : Some k.0.short ≡ Some a = ap (λ x. x.short) (sym k.3) ∙ e in let is : k.0.short ≡ a = cc in is)
+held p g a (inl k) e = given_at p k.0 g a k.1 k.2 (let same : Some k.0.short ≡ Some a = ap (λ x. x.short) (sym k.3) ∙ e in let is : k.0.short ≡ a = cc in is)
 held p g a (inr k) e = absurd (let none : None ≡ Some a = ap (λ x. x.short) (sym k) ∙ e in cc)
 
 pub gifts_start : (p : Plan) (capacity : ℕ) → AreUsed p

@@ -27,15 +27,14 @@ pub allowed_rest : (w : World) (es fs : List Event) → AllAllowed w (es ++ fs) 
 allowed_rest w [] fs all = all
 allowed_rest w (e ∷ es) fs all = allowed_rest (happens w e) es fs all.1
 
--- and one that leaves used gear goes on with those that do
-pub leaves_more : (us : List Used) (es : List Event) (e : Event) → AllByRecursion (LeavesUsed us) es → LeavesUsed us e
-    → AllByRecursion (LeavesUsed us) (es ++ e ∷ [])
-leaves_more us [] e all here = (here, tt)
-leaves_more us (f ∷ es) e all here = (all.0, leaves_more us es e all.1 here)
+-- and what holds of all events and of one more, holds of all of them
+pub all_more : (P : Event → Type 0) (es : List Event) (e : Event) → AllByRecursion P es → P e → AllByRecursion P (es ++ e ∷ [])
+all_more P [] e all here = (here, tt)
+all_more P (f ∷ es) e all here = (all.0, all_more P es e all.1 here)
 
-pub leaves_front : (us : List Used) (es fs : List Event) → AllByRecursion (LeavesUsed us) (es ++ fs) → AllByRecursion (LeavesUsed us) es
-leaves_front us [] fs all = tt
-leaves_front us (e ∷ es) fs all = (all.0, leaves_front us es fs all.1)
+pub all_front : (P : Event → Type 0) (es fs : List Event) → AllByRecursion P (es ++ fs) → AllByRecursion P es
+all_front P [] fs all = tt
+all_front P (e ∷ es) fs all = (all.0, all_front P es fs all.1)
 
 pub leaves_rest : (us : List Used) (es fs : List Event) → AllByRecursion (LeavesUsed us) (es ++ fs) → AllByRecursion (LeavesUsed us) fs
 leaves_rest us [] fs all = all
@@ -56,7 +55,7 @@ pub run_more : (p : Plan) (capacity : ℕ) (log : List Event) (e : Event) → Is
 run_more p capacity log e run here leaves = record {
   plan = run.plan;
   allowed = allowed_more (start p capacity) log e run.allowed here;
-  leaves = leaves_more p.used log e run.leaves leaves;
+  leaves = all_more (LeavesUsed p.used) log e run.leaves leaves;
 }
 
 -- the last event of a run was allowed
@@ -65,6 +64,5 @@ last_allowed p capacity log e run = (allowed_rest (start p capacity) log (e ∷ 
 
 -- hearing
 pub plain_hearing : (answers : List ℕ) → Hears answers (heard_of answers)
-plain_hearing [] = tt
 plain_hearing (v ∷ []) = (λ e. (cc), (refl, tt))
-plain_hearing (v ∷ u ∷ more) = tt
+plain_hearing _ = tt

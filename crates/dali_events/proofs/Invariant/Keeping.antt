@@ -1,6 +1,6 @@
 use Rattle.std.proofs.{Common.{◌≡◌, ℕ, ◌<◌, List, refl, subst, ◌∙◌, length, Option, Some, None}, lemmas.List.{get_or-map, length-map}}
 use Rattle.dali_script.specs.{Findings.assigned, Records.{Assignment, Kept, InBlock, IsKept, MayAdd, Fits, address_of}, declared.block.Block.Block}
-use Rattle.dali_script.specs.declared.{finding.Finding.Finding, orders.Order.{Order, TheVariants.{Put, Commit, Done, Halt}}, records.Record.Record}
+use Rattle.dali_script.specs.declared.{finding.Finding.Finding, orders.Order.{Order, TheVariants.{Put, Commit}}, records.Record.Record}
 use Rattle.dali_script.{specs.declared.records.Record.TheVariants.{Reserve, Enrol, Release}, proofs.Lists.{has_map, kept_none, kept_more, block_stays}}
 use Rattle.dali_script.proofs.{Lists.reserved_fits, Members.Each}
 use Rattle.dali_events.specs.{Allowed.{Allowed, MayOrder, MayCommit}, Happens.{happens, with_outstanding, controller_informed}, Laws.KeepsRecords, Plan.Plan}
@@ -45,8 +45,7 @@ one_new kept y n x e = subst (λ z. IsNewRecord kept z) (let same : y ≡ x = cc
 commits : (k : Controller) (x : Record) → MayCommit k x → IsKept k.records → ((a : ℕ) → InBlock k.records.block a → a < 64)
     → ((y : Finding) → k.finding ≡ Some y → (assigned y).0 < 64) → IsNewRecord k.records x
 commits k (Reserve a r) may kept own found = record { may = may.2; fits = (may.0, may.1); short = own a may.0 }
-commits k (Enrol a r) may kept own found =
-    record { may = may.2; fits = may.1; short = subst (λ (p : Assignment). p.0 < 64) may.0.2 (found may.0.0 may.0.1) }
+commits k (Enrol a r) may kept own found = record { may = may.2; fits = may.1; short = subst (λ (p : Assignment). p.0 < 64) may.0.2 (found may.0.0 may.0.1) }
 commits k (Release a r) may kept own found = record {
   may = may.0;
   fits = reserved_fits k.records a r kept may.0;
@@ -62,12 +61,10 @@ order_keeps : (p : Plan) → IsPlan p → (w : World) (c : ℕ) → c < length p
 order_keeps p plan w c there k (Commit x) may found = λ h. record {
   block = h.block;
   kept_so = h.kept_so;
-  new = one_new k.records x
-      (commits k x may.1 h.kept_so (λ a within. plan.short c a there (subst (λ b. InBlock b a) h.block within)) found);
+  new = one_new k.records x (commits k x may.1 h.kept_so (λ a within. plan.short c a there (subst (λ b. InBlock b a) h.block within)) found);
 }
 order_keeps p plan w c there k (Put q f) may found = tt
-order_keeps p plan w c there k (Done end) may found = tt
-order_keeps p plan w c there k (Halt fault) may found = tt
+order_keeps p plan w c there k _ may found = tt
 
 keeps_add : (p : Plan) → IsPlan p → (w : World) (e : Event) → Allowed w e → AreShort w → length w.controllers ≡ length p.blocks → Adds (KeepsAs p) w e
 keeps_add p plan w (event.Acted c i o) here short count =

@@ -1,6 +1,6 @@
 use Rattle.std.proofs.Common.{◌≡◌, ℕ, ◌<◌, ◌⊎◌, inl, inr, Bool, true, false, List, refl, sym, ap, subst, ◌∙◌, arith, Option, Some, None, ◌-◌, ◌&&◌, ◌==◌}
-use Rattle.std.{proofs.{Common.if◌then◌else◌, lemmas.Bool.Decides.nat_tests}, specs.Prelude.unwrap_or}
-use Rattle.dali_frame.specs.{Random.value_of, Short.{code_of, short_of}, declared.frames.Answer.{Answer, TheVariants.{Silence, Byte, Damaged}}}
+use Rattle.std.{proofs.{Common.{if◌then◌else◌, rules}, lemmas.Bool.Decides.nat_tests}, specs.Prelude.unwrap_or}
+use Rattle.dali_frame.specs.{Random.value_of, Short.{code_of, short_of}, declared.frames.Answer.{Answer, TheVariants.{Silence, Byte}}}
 use Rattle.dali_frame.specs.declared.numbers.SearchAddress.{SearchAddress}
 use Rattle.dali_special.specs.{Command.{MASK, program_data, IsSpelled}, declared.command.Command.{Command, TheVariants.{Terminate, Initialise, Randomise}}}
 use Rattle.dali_special.specs.declared.command.Command.TheVariants.{Withdraw, SearchHigh, SearchMiddle, SearchLow, Program, QueryShort, Compare, RandomByte}
@@ -75,28 +75,23 @@ found_random g r search found = test (g.random) (value_of g.search) found ∙ ap
 
 knows_doubted : (h : Answer) (g : Gear) → Unnumbered g → Knows (doubted h) g
 knows_doubted Silence g k = k
-knows_doubted (Byte v) g k = tt
-knows_doubted Damaged g k = tt
+knows_doubted _ g k = tt
 
 knows_queried : (r : SearchAddress) (h : Answer) (g : Gear) (x : ℕ) → IsShort g → Agrees QueryShort g h → Seeks r g
     → Knows (queried r h) (gear_taken QueryShort x g)
-knows_queried r Silence g x small agrees k = tt
-knows_queried r Damaged g x small agrees k = tt
 knows_queried r (Byte v) g x small agrees k = go (short_of v) (v == MASK) refl where
   go : (o : Option ℕ) (m : Bool) → short_of v ≡ o → Knows (named r o m) (gear_taken QueryShort x g)
   go (Some b) m short = λ active.
       (k active, λ random. some_of_code g.short v b small short (agrees v (program_data g.short) refl (query_answer g active (found_at g r (k active) random))))
   go None true short = λ active. (
     k active,
-    λ random. none_of_code g.short v small short
-        (agrees v (program_data g.short) refl (query_answer g active (found_at g r (k active) random))),
+    λ random. none_of_code g.short v small short (agrees v (program_data g.short) refl (query_answer g active (found_at g r (k active) random))),
   )
   go None false short = tt
+knows_queried r _ g x small agrees k = tt
 
 knows_verified : (r : SearchAddress) (a : ℕ) (h : Answer) (g : Gear) (x : ℕ) → IsShort g → Agrees QueryShort g h → Seeks r g
     → Knows (verified r a h) (gear_taken QueryShort x g)
-knows_verified r a Silence g x small agrees k = tt
-knows_verified r a Damaged g x small agrees k = tt
 knows_verified r a (Byte v) g x small agrees k = go (short_of v) refl where
   go : (o : Option ℕ) → short_of v ≡ o → Knows (answered r a o) (gear_taken QueryShort x g)
   go None short = tt
@@ -109,6 +104,7 @@ knows_verified r a (Byte v) g x small agrees k = go (short_of v) refl where
               (agrees v (program_data g.short) refl (query_answer g active (found_at g r (k active) random))) ∙ ap (λ n. Some n) number,
         )
     same false is = tt
+knows_verified r a _ g x small agrees k = tt
 
 both_true : (a b : Bool) → (a && b) ≡ true → (a ≡ true) × (b ≡ true)
 both_true true b e = (refl, e)
@@ -185,7 +181,6 @@ knows_step b xs stage.RandomisedOnce Randomise h g x on small agrees k = tt
 knows_step b xs stage.Free (RandomByte a High) h g x on small agrees k = tt
 knows_step b xs (stage.HighAsked a high) (RandomByte d Middle) h g x on small agrees k = knows_middle a d high h (gear_taken (RandomByte d Middle) x g)
 knows_step b xs (stage.MiddleAsked a bytes) (RandomByte d Low) h g x on small agrees k = knows_low a d bytes h (gear_taken (RandomByte d Low) x g)
-knows_step b xs (stage.NumberSent r) Withdraw h g x on small agrees k = tt
 knows_step b xs (stage.Found r a) Withdraw h g x on small agrees k = tt
 knows_step b xs (stage.Confirmed r a) Withdraw h g x on small agrees k = tt
 knows_step b xs _ _ h g x on small agrees k = tt
@@ -193,44 +188,12 @@ knows_step b xs _ _ h g x on small agrees k = tt
 -- of a gear that takes no part a stage says nothing
 pub knows_inactive : (s : Stage) (g : Gear) → is_active g.state ≡ false → Knows s g
 knows_inactive stage.Terminated g off = λ active. absurd (cc)
-knows_inactive stage.InitialisedOnce g off = λ active. absurd (cc)
-knows_inactive stage.Initialised g off = λ active. absurd (cc)
-knows_inactive (stage.WokenHigh high) g off = λ active. absurd (cc)
-knows_inactive (stage.WokenLow high low) g off = λ active. absurd (cc)
-knows_inactive (stage.WokenMiddle high middle) g off = λ active. absurd (cc)
-knows_inactive stage.DrawFree g off = λ active. absurd (cc)
-knows_inactive stage.RandomisedOnce g off = λ active. absurd (cc)
-knows_inactive (stage.HighSent high) g off = λ active. absurd (cc)
-knows_inactive (stage.MiddleSent high middle) g off = λ active. absurd (cc)
-knows_inactive (stage.NumberSent r) g off = λ active. absurd (cc)
-knows_inactive (stage.LowSent high low) g off = λ active. absurd (cc)
-knows_inactive (stage.Hunted r last left) g off = λ active. absurd (cc)
-knows_inactive (stage.Found r a) g off = λ active. absurd (cc)
-knows_inactive (stage.Unnamed r) g off = λ active. absurd (cc)
-knows_inactive (stage.Programmed r a) g off = λ active. absurd (cc)
-knows_inactive (stage.Confirmed r a) g off = λ active. absurd (cc)
-knows_inactive _ g off = tt
+knows_inactive _ g off = search rules
 
 -- a stage says nothing of half pairs here
 pub knows_halved : (s : Stage) (g : Gear) (half : Option Command) → Knows s g → Knows s (record g { half = half })
 knows_halved stage.Terminated g half k = k
-knows_halved stage.InitialisedOnce g half k = k
-knows_halved stage.Initialised g half k = k
-knows_halved (stage.WokenHigh high) g half k = k
-knows_halved (stage.WokenLow high low) g half k = k
-knows_halved (stage.WokenMiddle high middle) g half k = k
-knows_halved stage.DrawFree g half k = k
-knows_halved stage.RandomisedOnce g half k = k
-knows_halved (stage.HighSent high) g half k = k
-knows_halved (stage.MiddleSent high middle) g half k = k
-knows_halved (stage.NumberSent r) g half k = k
-knows_halved (stage.LowSent high low) g half k = k
-knows_halved (stage.Hunted r last left) g half k = k
-knows_halved (stage.Found r a) g half k = k
-knows_halved (stage.Unnamed r) g half k = k
-knows_halved (stage.Programmed r a) g half k = k
-knows_halved (stage.Confirmed r a) g half k = k
-knows_halved _ g half k = tt
+knows_halved _ g half k = k
 
 -- ONE GEAR AND ONE FRAME. What a gear stores, and what it keeps.
 pub short_from : (c : Command) (g : Gear) (a : ℕ) → short_after c g ≡ Some a → (g.short ≡ Some a) ⊎ (stored_short c g ≡ Some a)

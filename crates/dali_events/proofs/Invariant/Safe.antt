@@ -14,7 +14,7 @@ use Rattle.dali_events.specs.{Promise.{KeepsPromiseFrom, KeepsPromise, Names, Is
 use Rattle.dali_events.specs.{Runs.{AllAllowed, IsRun, LeavesUsed}, World.{World, gear_at, controller_at, start, gear_changed}, declared.event.Event.Event}
 use Rattle.dali_events.{specs.declared.used.Used.Used, proofs.Invariant.{Arrived.gifts_start, Controllers.controllers_count, Drawn.{Draws, HasDrawn}}}
 use Rattle.dali_events.proofs.Invariant.{Drawn.{draws_step, draws_start, are_drawn}, Gifts.{Gifts, IsOwned, Change, SameAddresses, no_change, frame_changes}}
-use Rattle.dali_events.proofs.Invariant.{Gifts.{gifts_step, gift_stays, one_holder}, Growing.{after_both, allowed_front, allowed_rest, leaves_front}}
+use Rattle.dali_events.proofs.Invariant.{Gifts.{gifts_step, gift_stays, one_holder}, Growing.{after_both, allowed_front, allowed_rest, all_front}}
 use Rattle.dali_events.proofs.Invariant.{Growing.leaves_rest, Keeping.{AllKeep, AreShort, keeping_step, keeps_start, records_of}, Sending.{IsKnown, known_step}}
 use Rattle.dali_events.proofs.{Invariant.Sending.known_start, Page.{Bridge.{Next, found_told}, Frames.{stores_reserved, found_gear}, Runs.{Leads, each_event}}}
 use Rattle.dali_events.proofs.Page.{Runs.{begins, leads_on, leads_to, safe_so, gear_then, seen_both, to_page, from_page}, Sites.apart_seen}
@@ -45,8 +45,7 @@ module _ (p : Plan) (plan : IsPlan p) (w : World) (k : Holds p w) where
   safe_page = safe_so p w k.moments plan k.page
 
   seen_named : (a r : ℕ) → (g : ℕ) × (x : PageGear) × At site_of.gear g x × (x.short ≡ Some a) × (x.random ≡ r) → Names w (a, r)
-  seen_named a r who =
-      let held = from_page w site_of.gear k.page.seen.gear who.0 a r who.1 who.2 who.3 who.4 in names_holder p w k who.0 a r held.0 held.1
+  seen_named a r who = let held = from_page w site_of.gear k.page.seen.gear who.0 a r who.1 who.2 who.3 who.4 in names_holder p w k who.0 a r held.0 held.1
 
   -- what a table says, and a finding
   pub table_named : (c : ℕ) (x : Assignment) → c < length w.controllers → Has (controller_at w c).records.enrolled x → Names w x
@@ -58,8 +57,7 @@ module _ (p : Plan) (plan : IsPlan p) (w : World) (k : Holds p w) where
       (found_told (k.page.seen.each c there) x is))
 
   -- a gear that holds an address that is reserved has the number
-  pub reserved_number : (c a r g : ℕ) → c < length w.controllers → Has (controller_at w c).records.reserved (a, r) → HoldsShort w g a
-      → (gear_at w g).random ≡ r
+  pub reserved_number : (c a r g : ℕ) → c < length w.controllers → Has (controller_at w c).records.reserved (a, r) → HoldsShort w g a → (gear_at w g).random ≡ r
   reserved_number c a r g there has held =
       safe_page.sound.for_gear c a r g (gear_seen (gear_at w g)) ((k.page.seen.each c there).sees.to a r has)
       (to_page w site_of.gear k.page.seen.gear g held.0) held.1
@@ -226,8 +224,7 @@ module _ (p : Plan) (plan : IsPlan p) (w : World) (e : Event) (here : Allowed w 
 pub holds_all : (p : Plan) → IsPlan p → (w : World) (es : List Event) → AllAllowed w es
     → AllByRecursion (LeavesUsed p.used) es → Holds p w → Holds p (after_all w es)
 holds_all p plan w [] all leave k = k
-holds_all p plan w (e ∷ es) all leave k =
-    holds_all p plan (happens w e) es all.1 leave.1 (holds_step p plan w e all.0 leave.0 k)
+holds_all p plan w (e ∷ es) all leave k = holds_all p plan (happens w e) es all.1 leave.1 (holds_step p plan w e all.0 leave.0 k)
 
 keeps_all : (p : Plan) → IsPlan p → (w : World) (es : List Event) → AllAllowed w es
     → AllByRecursion (LeavesUsed p.used) es → Holds p w → KeepsGifts w (after_all w es)
@@ -264,14 +261,14 @@ module _ (p : Plan) (plan : IsPlan p) (w : World) (first : Holds p w) where
   front_holds : (es more log : List Event) → es ++ more ≡ log → AllAllowed w log → AllByRecursion (LeavesUsed p.used) log → Holds p (after_all w es)
   front_holds es more log e all leave =
       holds_all p plan w es (allowed_front w es more (subst (AllAllowed w) (sym e) all))
-      (leaves_front p.used es more (subst (AllByRecursion (LeavesUsed p.used)) (sym e) leave)) first
+      (all_front (LeavesUsed p.used) es more (subst (AllByRecursion (LeavesUsed p.used)) (sym e) leave)) first
 
   since : (earlier later rest : List Event) → AllAllowed w (earlier ++ (later ++ rest)) → AllByRecursion (LeavesUsed p.used) (earlier ++ (later ++ rest))
       → KeepsGifts (after_all w earlier) (after_all w (earlier ++ later))
   since earlier later rest all leave =
       let allowed : AllAllowed (after_all w earlier) later =
       allowed_front (after_all w earlier) later rest (allowed_rest w earlier (later ++ rest) all) in
-      let leaves : AllByRecursion (LeavesUsed p.used) later = leaves_front p.used later rest (leaves_rest p.used earlier (later ++ rest) leave) in
+      let leaves : AllByRecursion (LeavesUsed p.used) later = all_front (LeavesUsed p.used) later rest (leaves_rest p.used earlier (later ++ rest) leave) in
       subst (λ v. KeepsGifts (after_all w earlier) v) (sym (after_both w earlier later))
       (keeps_all p plan (after_all w earlier) later allowed leaves
       (front_holds earlier (later ++ rest) (earlier ++ (later ++ rest)) refl all leave))
@@ -279,8 +276,7 @@ module _ (p : Plan) (plan : IsPlan p) (w : World) (first : Holds p w) where
   pub safe_from : (log : List Event) → AllAllowed w log → AllByRecursion (LeavesUsed p.used) log → IsSafeFrom w log
   safe_from log all leave = record {
     always = λ earlier more e. safe p plan (after_all w earlier) (front_holds earlier more log e all leave);
-    ever_after = λ earlier later rest e.
-        since earlier later rest (subst (AllAllowed w) (sym e) all) (subst (AllByRecursion (LeavesUsed p.used)) (sym e) leave);
+    ever_after = λ earlier later rest e. since earlier later rest (subst (AllAllowed w) (sym e) all) (subst (AllByRecursion (LeavesUsed p.used)) (sym e) leave);
   }
 
 -- THE PROMISE, BY GEAR AND TABLES ALONE
@@ -325,7 +321,7 @@ pub run_front : (p : Plan) (capacity : ℕ) (front rest : List Event) → IsRun 
 run_front p capacity front rest run = record {
   plan = run.plan;
   allowed = allowed_front (start p capacity) front rest run.allowed;
-  leaves = leaves_front p.used front rest run.leaves;
+  leaves = all_front (LeavesUsed p.used) front rest run.leaves;
 }
 
 pub safe_history : (p : Plan) (capacity : ℕ) (log : List Event) → IsRun p capacity log → IsSafeHistory p capacity log
@@ -341,7 +337,7 @@ unfolding holds_start
 every_run_is_a_history p capacity front rest run =
     let begun = holds_start p run.plan capacity in
     let all = allowed_front (start p capacity) front rest run.allowed in
-    let leave = leaves_front p.used front rest run.leaves in
+    let leave = all_front (LeavesUsed p.used) front rest run.leaves in
     let k = holds_all p run.plan (start p capacity) front all leave begun in
     let first = moments_all p run.plan (start p capacity) front all leave begun in
     let allowed = allowed_rest (start p capacity) front rest run.allowed in

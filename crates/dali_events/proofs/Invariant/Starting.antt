@@ -33,8 +33,7 @@ used_or_same gs (u ∷ us) g = go (used_or_same (set gs u.gear (gear_of_used u))
         u,
         inl refl,
         same,
-        λ there. k ∙ subst (λ n. get_or (set gs n (gear_of_used u)) g fresh ≡ gear_of_used u) (sym same)
-            (get_or-set_same gs g (gear_of_used u) fresh there),
+        λ there. k ∙ subst (λ n. get_or (set gs n (gear_of_used u)) g fresh ≡ gear_of_used u) (sym same) (get_or-set_same gs g (gear_of_used u) fresh there),
       )
   go (inr k) false e =
       let other : g ≡ u.gear → ⊥ = grind (arith, nat_tests) in
@@ -98,8 +97,7 @@ pub start_count : (p : Plan) → length (with_used (replicate p.gear fresh) p.us
 start_count p = used_count (replicate p.gear fresh) p.used ∙ length-replicate p.gear fresh
 
 pub drawn_at : (p : Plan) (u : Used) (g : ℕ) → Has p.used u → u.gear ≡ g → Has {A = ℕ × ℕ} (map earlier_draw p.used) (g, u.random)
-drawn_at p u g h same =
-    subst (λ n. Has {A = ℕ × ℕ} (map earlier_draw p.used) (n, u.random)) same (has_map earlier_draw p.used u h)
+drawn_at p u g h same = subst (λ n. Has {A = ℕ × ℕ} (map earlier_draw p.used) (n, u.random)) same (has_map earlier_draw p.used u h)
 
 pub given_at : (p : Plan) (u : Used) (g a : ℕ) → Has p.used u → u.gear ≡ g → u.short ≡ a → Has {A = ℕ × ℕ} (map earlier_gift p.used) (g, a)
 given_at p u g a h same short =
@@ -128,5 +126,4 @@ stands_at p is g a h =
 -- without used gear all come from the factory, and nothing was drawn or given before
 pub from_factory : (p : Plan) (capacity : ℕ) → p.used ≡ []
     → ((start p capacity).gear ≡ replicate p.gear fresh) × ((start p capacity).drawn ≡ []) × ((start p capacity).gifts ≡ [])
-from_factory p capacity none =
-    (ap (with_used (replicate p.gear fresh)) none, ap (map earlier_draw) none, ap (map earlier_gift) none)
+from_factory p capacity none = (ap (with_used (replicate p.gear fresh)) none, ap (map earlier_draw) none, ap (map earlier_gift) none)

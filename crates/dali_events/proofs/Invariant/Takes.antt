@@ -20,9 +20,8 @@ moved_more reach c ds es k g _ more (goes r e drew) = goes r e (λ w. go (drew w
   go (inr h) = inr (more (k, r) h)
 
 drawn_before : (b : Bool) (k : ℕ) (left : List ℕ) (more : List (ℕ × ℕ)) (x : ℕ × ℕ) → Has more x → Has (drawn_one b k left more) x
-drawn_before false k left more x h = h
-drawn_before true k [] more x h = h
 drawn_before true k (r ∷ left) more x h = inr h
+drawn_before _ k _ more x h = h
 
 moves_here : (reach : Reach) (c : Command) (k : ℕ) (g : Gear) (left : List ℕ) (more : List (ℕ × ℕ)) (t : Bool) → takes reach k g ≡ t
     → Moved reach c (drawn_one (t && draws_a_number c g) k left more) k g (one_after t c left g)
@@ -68,6 +67,5 @@ numbers_stay reach c k (g ∷ gs) left =
     (numbers_stay reach c (k + 1) gs (left_after (takes reach k g && draws_a_number c g) left)) where
       go : (b : Bool) (xs : List ℕ) (more : List (ℕ × ℕ)) (rest : List ℕ) → map (λ draw. draw.1) more ++ rest ≡ left_after b xs
           → map (λ draw. draw.1) (drawn_one b k xs more) ++ rest ≡ xs
-      go false xs more rest e = e
-      go true [] more rest e = e
       go true (r ∷ xs) more rest e = ap (λ ys. r ∷ ys) e
+      go _ _ more rest e = e

@@ -43,8 +43,7 @@ module _ {us : List Used} {s : Site} {c : ℕ} {t : List Entry} {kept : Kept} {o
   pub loses : (frames : List (ℕ × Command)) (reach : List (Option (ℕ × ℕ))) → By us (happens s (Destroyed frames reach)) c [] kept o f
   loses frames reach = record {
     told = one.told;
-    sees = emptied s (happens s (Destroyed frames reach)) c (own_of kept [] one.told) refl refl (λ q a v e. e)
-        (forgets s c (own_of kept t one.told) one.sees);
+    sees = emptied s (happens s (Destroyed frames reach)) c (own_of kept [] one.told) refl refl (λ q a v e. e) (forgets s c (own_of kept t one.told) one.sees);
     tables = one.tables;
     found = one.found;
     ordered = one.ordered;
@@ -218,8 +217,7 @@ module _ (p : SitePlan) (plan : IsSitePlan p) (w : World) (s : Site) (c : ℕ) (
       }
 
   -- whichever it is
-  pub informed : (x : Record) → (controller_at w c).outstanding ≡ Some x
-      → Informed p w s c (Some x) (with_record (controller_at w c).records x) None
+  pub informed : (x : Record) → (controller_at w c).outstanding ≡ Some x → Informed p w s c (Some x) (with_record (controller_at w c).records x) None
   informed (record_of.Reserve a r) is = reserves a r is
   informed (record_of.Enrol a r) is = enrols a r is
   informed (record_of.Release a r) is = releases a r is

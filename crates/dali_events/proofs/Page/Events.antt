@@ -1,11 +1,11 @@
 use Rattle.std.proofs.Common.{◌≡◌, ◌⊎◌, inl, inr, ℕ, zero, suc, ◌<◌, Bool, true, false, refl, sym, ap, subst, ◌∙◌, List, [], ◌∷◌, map, Option, Some, None}
-use Rattle.std.proofs.Common.{length, get_or, set, length-set, ◌&&◌, if◌then◌else◌}
+use Rattle.std.proofs.Common.{length, get_or, set, length-set, if◌then◌else◌}
 use Rattle.dali_frame.specs.declared.frames.Forward.{Forward}
 use Rattle.dali_special.specs.Command.{command_of}
 use Rattle.dali_gear.specs.Gear.{Gear as Real, fresh, with_power, without_power, gear_expired, gear_quieted}
 use Rattle.dali_arbiter.specs.Arbiter.{Arbiter, owns, bus_freed, bus_muted, bus_lapsed}
 use Rattle.dali_script.specs.{Findings.assigned, Records.{Assignment, Has, Kept}, declared.{finding.Finding.Finding, orders.{Input.Input, Order.Order}}}
-use Rattle.dali_script.specs.{declared.{orders.Order.TheVariants.{Put, Commit, Done, Halt}, records.Record.Record}, Scripts.IsFirst}
+use Rattle.dali_script.specs.{declared.{orders.Order.TheVariants.{Put, Commit}, records.Record.Record}, Scripts.IsFirst}
 use Rattle.dali_script.proofs.{Firsts.first_for_all, Members.{Each, each_changed}}
 use Rattle.dali_statement.{proofs.{Tests.{both, some_is}, Gear.{power_on, expired}, Own.may_put}, specs.{Gear.{command_seen, gear_seen}, Page.{Gear, Command}}}
 use Rattle.dali_statement.specs.Page.{Moment, Destroyed, Power, Expires, Site, allowed, may_send, befalls, are_apart, after, happens}
@@ -54,8 +54,7 @@ SameBus w v = ((v.bus.owner ≡ w.bus.owner) × (v.trace ≡ w.trace)) ⊎ (v.bu
 
 same_bus : (w v : World) → SameBus w v → (us : List Used) (s : Site) (c : ℕ) (k : Controller) → SeenBy us s w.bus.owner w.trace c k
     → SeenBy us s v.bus.owner v.trace c k
-same_bus w v (inl same) us s c k one =
-    subst (λ t. SeenBy us s v.bus.owner t c k) (sym same.1) (subst (λ o. SeenBy us s o w.trace c k) (sym same.0) one)
+same_bus w v (inl same) us s c k one = subst (λ t. SeenBy us s v.bus.owner t c k) (sym same.1) (subst (λ o. SeenBy us s o w.trace c k) (sym same.0) one)
 same_bus w v (inr over) us s c k one = subst (λ o. SeenBy us s o v.trace c k) (sym over) (ends one)
 
 owner_then : (p : SitePlan) (w v : World) (s : Site) → Seen p w s → length v.controllers ≡ length w.controllers → SameBus w v
@@ -142,8 +141,7 @@ module _ (p : SitePlan) (plan : IsSitePlan p) (w : World) (s : Site) (seen : See
   -- ---------------------------------------------------------------- what is kept
 
   module _ (records : KeepsRecords p w) (numbers : are_apart (map gear_seen w.gear) ≡ true) (c : ℕ) (there : c < length w.controllers) where
-    outstanding_kept : (o : Option Record) → (controller_at w c).outstanding ≡ o
-        → Informed p w s c o (with_outstanding (controller_at w c).records o) None
+    outstanding_kept : (o : Option Record) → (controller_at w c).outstanding ≡ o → Informed p w s c o (with_outstanding (controller_at w c).records o) None
     outstanding_kept (Some x) is = informed p plan w s c seen records there numbers x is
     outstanding_kept None is = let none = uninformed p w s c seen there in record {
       moments = none.moments;
@@ -188,36 +186,26 @@ module _ (p : SitePlan) (plan : IsSitePlan p) (w : World) (s : Site) (seen : See
 
     put_owner : (b : Arbiter) (o : Order) → (put_after b c o).owner ≡ b.owner
     put_owner b (Put n f) = refl
-    put_owner b (Commit x) = refl
-    put_owner b (Done e) = refl
-    put_owner b (Halt e) = refl
+    put_owner b _ = refl
 
     input_kept : (i : Input)
         → Informed p w s c (kept_by (controller_at w c) i) (kept_after (controller_at w c) i) (outstanding_told (controller_at w c).outstanding i)
     input_kept input.Committed = outstanding_kept (controller_at w c).outstanding refl
-    input_kept input.Start = uninformed p w s c seen there
-    input_kept input.Survey = uninformed p w s c seen there
-    input_kept (input.Heard h) = uninformed p w s c seen there
-    input_kept input.Destroyed = uninformed p w s c seen there
-    input_kept input.Lapsed = uninformed p w s c seen there
-    input_kept input.CommitFailed = uninformed p w s c seen there
+    input_kept _ = uninformed p w s c seen there
 
     -- what is ordered to be kept
     committed : (told : List Assignment) (i : Input) (x : Record) → ((y : Finding) → (controller_at w c).finding ≡ Some y → Has told (assigned y))
         → MayCommit (controller_informed (controller_at w c) i) x → LeavesUsed p.used (event.Acted c i (Commit x)) → Ordered p.used told x
     committed told i (record_of.Reserve a r) found may leaves = leaves c i a r refl
     committed told i (record_of.Enrol a r) found may leaves = subst (Has told) may.0.2 (found may.0.0 may.0.1)
-    committed told i (record_of.Release a r) found may leaves =
-        let other = may.1 in (other.2, subst (Has told) other.3 (found other.0 other.1), other.4)
+    committed told i (record_of.Release a r) found may leaves = let other = may.1 in (other.2, subst (Has told) other.3 (found other.0 other.1), other.4)
 
     ordered : (told : List Assignment) (i : Input) (o : Order) (was : Option Record) → ((y : Finding) → (controller_at w c).finding ≡ Some y
         → Has told (assigned y)) → ((x : Record) → was ≡ Some x → Ordered p.used told x)
         → MayOrder w c (controller_informed (controller_at w c) i) o → LeavesUsed p.used (event.Acted c i o)
         → (x : Record) → outstanding_after was o ≡ Some x → Ordered p.used told x
-    ordered told i (Put n f) was found old may leaves x is = old x is
     ordered told i (Commit y) was found old may leaves x is = subst (Ordered p.used told) (some_is is) (committed told i y found may.1 leaves)
-    ordered told i (Done e) was found old may leaves x is = old x is
-    ordered told i (Halt e) was found old may leaves x is = old x is
+    ordered told i _ was found old may leaves x is = old x is
 
     pub acted : (i : Input) (o : Order) → MayOrder w c (controller_informed (controller_at w c) i) o → LeavesUsed p.used (event.Acted c i o)
         → Next p (site_after w (event.Acted c i o)) s (IsKeeping c (kept_by (controller_at w c) i))

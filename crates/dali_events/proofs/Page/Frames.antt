@@ -7,10 +7,10 @@ use Rattle.dali_gear.specs.declared.row.Reach.TheVariants.{Everyone, Only}
 use Rattle.dali_arbiter.specs.Arbiter.{bus_sent}
 use Rattle.dali_script.specs.{Findings.{asked_of, search_of, found_by, assigned, later}, Records.{Assignment, Has}, declared.finding.Finding.Finding}
 use Rattle.dali_script.{specs.declared.{records.Record.Record, trace.Entry.Entry}, proofs.Members.{Each, each_changed}}
-use Rattle.dali_statement.proofs.{Own.{another, Sees, may_put, forgets, emptied, puts}, Tests.{both, placed, either, first_of_either, equal, equals, some_is}}
+use Rattle.dali_statement.proofs.{Own.{another, Sees, may_put, forgets, emptied, puts}, Tests.{both, placed, either, first_of_either, equals, some_is}}
 use Rattle.dali_statement.proofs.{Gear.found, Moved.At, One.{IsShort, vacant_by}, Rows.{sent_to_all, reached, heard, of_one, destroyed_one}, Steps.Safe}
 use Rattle.dali_statement.{proofs.Steps.{told_so, IsTrue, told_by, told_true}, specs.{Gear.{command_seen, gear_seen, HasShort}, Own.{Own, told_more}}}
-use Rattle.dali_statement.specs.Page.{byte, Command, Terminate, Initialise, Randomise, Search, Program, QueryShort, QueryRandom, Other, Gear, takes, Nothing}
+use Rattle.dali_statement.specs.Page.{byte, Command, Terminate, Gear, takes, Nothing}
 use Rattle.dali_statement.specs.Page.{Destroyed, Moment, Sent, Site, allowed, befalls, gear_after, may_miss, may_send, hears, are_apart, tells, happens}
 use Rattle.dali_statement.specs.Scripts.{heard_seen}
 use Rattle.dali_events.specs.{Allowed.{IsUp, MaySend, Hears}, Happens.{happens as site_after, trace_running, entry, goes_on, taken_by, told_sent}}
@@ -28,23 +28,15 @@ use Rattle.dali_events.specs.declared.event.Event.TheVariants as event
 
 seen_miss : (x : Read) → may_miss (command_seen x) ≡ is_send_twice x
 seen_miss (read.Initialise t) = refl
-seen_miss read.Randomise = refl
 seen_miss _ = refl
 
 hears_nothing : (m : Command) (gs : List Gear) → hears m Nothing gs ≡ true
 hears_nothing Terminate gs = refl
-hears_nothing (Initialise d) gs = refl
-hears_nothing Randomise gs = refl
-hears_nothing (Search q v) gs = refl
-hears_nothing (Program a) gs = refl
-hears_nothing QueryShort gs = refl
-hears_nothing (QueryRandom a q) gs = refl
-hears_nothing Other gs = refl
+hears_nothing _ gs = refl
 
 hears_seen : (x : Read) (h : Answer) (gs : List Real) → Hears (answers_of Everyone x 0 gs) h → hears (command_seen x) (heard_seen h) (map gear_seen gs) ≡ true
-hears_seen x answer.Silence gs is = hears_nothing (command_seen x) (map gear_seen gs)
-hears_seen x answer.Damaged gs is = hears_nothing (command_seen x) (map gear_seen gs)
 hears_seen x (answer.Byte v) gs is = heard x v gs is.0 is.1
+hears_seen x _ gs is = hears_nothing (command_seen x) (map gear_seen gs)
 
 shorts_of : (gs : List Real) → ((g : ℕ) (x : Gear) → At (map gear_seen gs) g x → IsShort x) → AllByRecursion HasShort gs
 shorts_of [] each = tt
@@ -225,8 +217,7 @@ module _ (p : SitePlan) (w : World) (s : Site) (seen : Seen p w s) (safe : Safe 
           (controller_at w d).finding) (sym (another d c away)) (other d here away))
           (λ there. subst (λ t. By p.used next c (if t then trace_now else []) (controller_at w c).records (controller_at w c).outstanding
           (later (controller_at w c).finding found_here)) (sym own) sender)
-      each_now false = each_of (SeenBy p.used next None []) w.controllers c (told_sent (trace_running w c) f h (controller_at w c)) other
-          (λ there. ends sender)
+      each_now false = each_of (SeenBy p.used next None []) w.controllers c (told_sent (trace_running w c) f h (controller_at w c)) other (λ there. ends sender)
 
       count_now : length (controllers_changed w.controllers c (told_sent (trace_running w c) f h)) ≡ length w.controllers
       count_now = length-set w.controllers c (told_sent (trace_running w c) f h (controller_at w c))

@@ -1,5 +1,5 @@
-use Rattle.std.proofs.Common.{◌≡◌, ℕ, ◌<◌, Bool, true, refl, sym, subst, List, [], ◌∷◌, ◌++◌, append_assoc, map, get_or, length, ap, ◌∙◌, Option, None, Some}
-use Rattle.std.proofs.{Common.{◌&&◌, if◌then◌else◌, slice_get}, lemmas.List.{length-map, get_or-map}}
+use Rattle.std.proofs.Common.{◌≡◌, ℕ, ◌<◌, true, refl, sym, subst, List, [], ◌∷◌, ◌++◌, append_assoc, map, get_or, length, ap, ◌∙◌, Option, None, Some}
+use Rattle.std.proofs.{Common.{if◌then◌else◌, slice_get}, lemmas.List.{length-map, get_or-map}}
 use Rattle.dali_gear.specs.Gear.{fresh}
 use Rattle.dali_arbiter.specs.Arbiter.{owns}
 use Rattle.dali_script.specs.declared.records.Record.{Record}
@@ -106,16 +106,13 @@ gear_then p w v s Is seen next = ap (gear_all next.moments) (sym seen.gear) ∙ 
 -- ---------------------------------------------------------------- the frames of a log are those of its history
 
 keeps_no_frame : (c : ℕ) (o : Option Record) (now later : List Moment) → IsKeeping c o now → frames_in (now ++ later) ≡ frames_in later
-keeps_no_frame c None now later is = ap (λ n. frames_in (n ++ later)) is
-keeps_no_frame c (Some (record_of.Reserve a r)) now later is = ap (λ n. frames_in (n ++ later)) is
-keeps_no_frame c (Some (record_of.Enrol a r)) now later is = ap (λ n. frames_in (n ++ later)) is
 keeps_no_frame c (Some (record_of.Release a r)) now later is = ap (λ n. frames_in (n ++ later)) is.1
+keeps_no_frame c _ now later is = ap (λ n. frames_in (n ++ later)) is
 
 frames_then : (w : World) (e : Event) (now later : List Moment) → IsMoment w e now → frames_in (now ++ later) ≡ frames_by e ++ frames_in later
 frames_then w (event.Acted c i o) now later is = keeps_no_frame c (kept_by (controller_at w c) i) now later is
 frames_then w (event.Sent c f h) now later is = ap (λ n. frames_in (n ++ later)) is.1
 frames_then w (event.Destroyed c f set) now later is = ap (λ n. frames_in (n ++ later)) is.1
-frames_then w (event.Collided c f d g) now later is = ap (λ n. frames_in (n ++ later)) is
 frames_then w (event.Power g on) now later is = ap (λ n. frames_in (n ++ later)) is.1
 frames_then w (event.Expired g) now later is = ap (λ n. frames_in (n ++ later)) is.1
 frames_then w (event.Up c true) now later is = keeps_no_frame c (controller_at w c).outstanding now later is

@@ -39,8 +39,7 @@ apart_seen w drawn = differ_by (λ g. if g.random == 0xFFFFFF then None else Som
 
   one : (i j n : ℕ) (x y : Gear) → slice_get (map gear_seen w.gear) i ≡ Some x → slice_get (map gear_seen w.gear) j ≡ Some y
       → (if x.random == 0xFFFFFF then None else Some x.random) ≡ Some n → (if y.random == 0xFFFFFF then None else Some y.random) ≡ Some n → i ≡ j
-  one i j n x y at there is same =
-      ap (λ d. d.0) (same_member (λ d. d.1) w.drawn (i, n) (j, n) drawn.once (drawer i n x at is) (drawer j n y there same) refl)
+  one i j n x y at there is same = ap (λ d. d.0) (same_member (λ d. d.1) w.drawn (i, n) (j, n) drawn.once (drawer i n x at is) (drawer j n y there same) refl)
 
 pub numbers_apart : (p : SitePlan) (capacity : ℕ) (front rest : List Event) → IsRun p capacity (front ++ rest)
     → are_apart (map gear_seen (after_log p capacity front).gear) ≡ true

@@ -81,8 +81,7 @@ opens_event w _ here calm unbroken opens = absurd calm
 opens_all : (w : World) (es : List Event) → AllAllowed w es → AreCalm es → BreakNoPair w es → OpensAll (stage_of w.trace) w.gear
     → OpensAll (stage_of (after_all w es).trace) (after_all w es).gear
 opens_all w [] all calm unbroken opens = opens
-opens_all w (e ∷ es) all calm unbroken opens =
-    opens_all (happens w e) es all.1 calm.1 unbroken.1 (opens_event w e all.0 calm.0 unbroken.0 opens)
+opens_all w (e ∷ es) all calm unbroken opens = opens_all (happens w e) es all.1 calm.1 unbroken.1 (opens_event w e all.0 calm.0 unbroken.0 opens)
 
 -- TERMINATE begins it
 opens_first : (w : World) (c : ℕ) (f : Forward) (h : Answer) → Allowed w (event.Sent c f h) → command_of f ≡ Terminate
@@ -95,12 +94,8 @@ opens_first w c f h here is =
 -- and its last frame is the second RANDOMISE
 opening_last : (t : List Entry) (f : Forward) → IsFront t f (steps Open) → length t ≡ 4 → (stage_of t ≡ stage.RandomisedOnce) × (command_of f ≡ Randomise)
 unfolding stage_of
-opening_last [] f front four = absurd (omega arith)
-opening_last (a ∷ []) f front four = absurd (omega arith)
-opening_last (a ∷ b ∷ []) f front four = absurd (omega arith)
-opening_last (a ∷ b ∷ c ∷ []) f front four = absurd (omega arith)
 opening_last (a ∷ b ∷ c ∷ d ∷ []) f front four = (rw (front.0, front.2.0, front.2.2.0, front.2.2.2.0) refl, front.2.2.2.2)
-opening_last (a ∷ b ∷ c ∷ d ∷ e ∷ t) f front four = absurd (omega arith)
+opening_last _ f front four = absurd (omega arith)
 
 -- READY GEAR
 abbrev ReadyAll : List Gear → Type 0
@@ -267,7 +262,6 @@ module _ (p : Plan) (plan : IsPlan p) (w : World) (known : IsKnown w) (draws : D
       → NobodyAnswers (after_all (happens (after_all (happens w (sent_event c first)) opening) (sent_event c last)) middle)
       → EachPowered (after_all (happens (after_all (happens w (sent_event c first)) opening) (sent_event c last)) middle) HasShort
   found_from is calm unbroken complete calm_since kept compares searched highest nobody =
-      let w1 : World = happens w (sent_event c first) in
       let opening_allowed : AllAllowed (happens w (sent_event c first)) opening = allowed_front (happens w (sent_event c first)) opening _ all.1 in
       let rest = allowed_rest (happens w (sent_event c first)) opening (sent_event c last ∷ (middle ++ sent_event c compare ∷ [])) all.1 in
       let known1 : IsKnown (happens w (sent_event c first)) = known_step w (sent_event c first) all.0 known in
@@ -278,7 +272,6 @@ module _ (p : Plan) (plan : IsPlan p) (w : World) (known : IsKnown w) (draws : D
       let ready5 = ready_opened p plan (after_all (happens w (sent_event c first)) opening) c last.frame last.heard rest.0 draws4 complete opens4 in
       let known5 = known_step (after_all (happens w (sent_event c first)) opening) (sent_event c last) rest.0 known4 in
       let draws5 = draws_step p (after_all (happens w (sent_event c first)) opening) (sent_event c last) draws4 in
-      let w5 : World = happens (after_all (happens w (sent_event c first)) opening) (sent_event c last) in
       let middle_allowed =
       allowed_front (happens (after_all (happens w (sent_event c first)) opening) (sent_event c last)) middle (sent_event c compare ∷ []) rest.1 in
       let compare_allowed =
@@ -319,7 +312,6 @@ pub all_found_after : (p : Plan) (capacity : ℕ) (front : List Event) (c : ℕ)
 all_found_after p capacity front c first opening last middle compare s nobody =
     let there = world_of (start p capacity) front opening middle (sent_event c first) (sent_event c last) in
     let whole = world_of (start p capacity) front opening (middle ++ sent_event c compare ∷ []) (sent_event c first) (sent_event c last) in
-    let w5 : World = happens (after_all (happens (after p capacity front) (sent_event c first)) opening) (sent_event c last) in
     let more = after_both (happens (after_all (happens (after p capacity front) (sent_event c first)) opening) (sent_event c last)) middle
     (sent_event c compare ∷ []) in
     subst (λ v. EachPowered v HasShort) (sym (whole ∙ more))

@@ -1,7 +1,7 @@
 use Rattle.std.proofs.Common.{◌≡◌, ℕ, ◌<◌, ◌≤◌, ◌⊎◌, inl, inr, Bool, true, false, List, [], ◌∷◌, ◌++◌, refl, sym, ap, subst, ◌∙◌, arith, length, get_or, Option}
 use Rattle.std.proofs.{Common.{Some, None, append_assoc, lit≤, nat_le, ◌&&◌, ◌-◌, ◌==◌, if◌then◌else◌}, lemmas.Bool.Decides.nat_tests}
 use Rattle.std.specs.Prelude.{unwrap_or}
-use Rattle.dali_frame.specs.{Random.{value_of, MASK24}, declared.frames.{Answer.{Answer, TheVariants.{Silence, Byte, Damaged}}, Forward.Forward}}
+use Rattle.dali_frame.specs.{Random.{value_of, MASK24}, declared.frames.{Answer.{Answer, TheVariants.{Silence}}, Forward.Forward}}
 use Rattle.dali_frame.specs.declared.numbers.SearchAddress.{SearchAddress}
 use Rattle.dali_special.specs.{Command.command_of, declared.command.Command.{Command, TheVariants.{Initialise, Randomise, Compare, SearchHigh, SearchMiddle}}}
 use Rattle.dali_special.specs.declared.command.{Command.TheVariants.SearchLow, Target.TheVariants.Unaddressed}
@@ -41,17 +41,13 @@ IsWoken s = is_woken s ≡ true
 woken_doubted : (h : Answer) → IsWoken (doubted h)
 unfolding is_woken
 woken_doubted Silence = refl
-woken_doubted (Byte v) = refl
-woken_doubted Damaged = refl
+woken_doubted _ = refl
 
 woken_hunted : (r : SearchAddress) (last : Option Answer) (left : ℕ) (c : Command) (h : Answer) → IsWoken (next_stage (stage.Hunted r last left) c h)
 unfolding is_woken
 woken_hunted r last left c h = go (left == 0) where
   asked : (c : Command) → IsWoken (unwrap_or (hunted r (left - 1) c h) stage.Over)
   asked (SearchHigh high) = refl
-  asked (SearchMiddle middle) = refl
-  asked (SearchLow low) = refl
-  asked Compare = refl
   asked _ = refl
 
   go : (t : Bool) → IsWoken (unwrap_or (if t then None else hunted r (left - 1) c h) stage.Over)
@@ -62,15 +58,13 @@ woken_next : (b : Block) (xs : List Assignment) (s : Stage) (c : Command) (h : A
 unfolding is_woken
 woken_next b xs stage.InitialisedOnce (Initialise Unaddressed) h on woken = refl
 woken_next b xs stage.Initialised Randomise h on woken = refl
-woken_next b xs stage.Initialised (SearchHigh high) h on woken = refl
 woken_next b xs (stage.WokenHigh high) (SearchLow low) h on woken = refl
-woken_next b xs (stage.WokenHigh high) (SearchMiddle middle) h on woken = refl
 woken_next b xs (stage.WokenLow high low) (SearchMiddle middle) h on woken = refl
 woken_next b xs (stage.WokenMiddle high middle) Compare h on woken = woken_doubted h
 woken_next b xs stage.DrawFree Randomise h on woken = refl
 woken_next b xs stage.RandomisedOnce Randomise h on woken = refl
 woken_next b xs (stage.Hunted r last left) c h on woken = woken_hunted r last left c h
-woken_next b xs _ _ h on woken = absurd (let none = on.leads_on in let no = woken in cc)
+woken_next b xs _ _ h on woken = let leads = on.leads_on in let before = woken in cc
 
 -- between the two INITIALISE it has half a pair, or had one before and is ENABLED; then it is ENABLED
 abbrev Waked : Stage → Gear → Type 0
@@ -95,23 +89,16 @@ first_half x none = go (is_second (Initialise Unaddressed) x.half) refl where
 
 waked_doubted : (h : Answer) (x : Gear) → x.state ≡ Enabled → Waked (doubted h) x
 waked_doubted Silence x k = k
-waked_doubted (Byte v) x k = k
-waked_doubted Damaged x k = k
+waked_doubted _ x k = k
 
 waked_asked : (r : SearchAddress) (left : ℕ) (c : Command) (h : Answer) (x : Gear) (n : ℕ) → is_asking c ≡ true → x.state ≡ Enabled
     → Waked (unwrap_or (hunted r left c h) stage.Over) (gear_taken c n x)
-waked_asked r left (SearchHigh high) h x n asks k = k
-waked_asked r left (SearchMiddle middle) h x n asks k = k
-waked_asked r left (SearchLow low) h x n asks k = k
 waked_asked r left Compare h x n asks k = k
-waked_asked r left _ h x n asks k = absurd (cc)
+waked_asked r left _ h x n asks k = cc
 
 asked_short : (c : Command) (x : Gear) (n : ℕ) → is_asking c ≡ true → (gear_taken c n x).short ≡ None → x.short ≡ None
-asked_short (SearchHigh high) x n asks e = e
-asked_short (SearchMiddle middle) x n asks e = e
-asked_short (SearchLow low) x n asks e = e
 asked_short Compare x n asks e = e
-asked_short _ x n asks e = absurd (cc)
+asked_short _ x n asks e = cc
 
 waked_hunted : (r : SearchAddress) (last : Option Answer) (left : ℕ) (c : Command) (h : Answer) (x : Gear) (n : ℕ) → 0 < left → is_asking c ≡ true
     → x.state ≡ Enabled → Waked (next_stage (stage.Hunted r last left) c h) (gear_taken c n x)
@@ -164,7 +151,7 @@ record Is (w : World) (g : ℕ) : Type 0 where
   pub woken : IsWoken (stage_of w.trace)
   pub at : Each fresh (There (stage_of w.trace) g) w.gear
 
-running_owned : (w : World) (c : ℕ) → w.bus.owner ≡ Some c → trace_running w c ≡ w.trace
+pub running_owned : (w : World) (c : ℕ) → w.bus.owner ≡ Some c → trace_running w c ≡ w.trace
 running_owned w c e = rw (e, self c) refl where
   self : (n : ℕ) → (n == n) ≡ true
   self n = grind (arith, nat_tests)
@@ -206,8 +193,7 @@ is_unless false w g some is = (is.woken, is.at)
 
 is_step : (w : World) (e : Event) (c g : ℕ) → Allowed w e → Runs w c → Keeps g w e → Is w g → Runs (happens w e) c → Is (happens w e) g
 is_step w (event.Sent d f h) c g here runs keeps is next = is_sent w c d f h g here runs is next
-is_step w (event.Acted d i o) c g here runs keeps is next =
-    let k = is_unless (gives_up w.bus d o) w g next.begun is in record { woken = k.0; at = k.1 }
+is_step w (event.Acted d i o) c g here runs keeps is next = let k = is_unless (gives_up w.bus d o) w g next.begun is in record { woken = k.0; at = k.1 }
 is_step w (event.Offered d f) c g here runs keeps is next = record { woken = is.woken; at = is.at }
 is_step w event.Quiet c g here runs keeps is next = record {
   woken = is.woken;
@@ -217,10 +203,7 @@ is_step w event.Quiet c g here runs keeps is next = record {
 is_step w (event.Foreign f) c g here runs keeps is next = record {
   woken = is.woken;
   at = each_map fresh (There (stage_of w.trace) g) gear_interrupted w.gear
-      (λ k x one same. (
-        (one same).0,
-        λ none. waked_halved (stage_of w.trace) x (if x.powered then None else x.half) keeps ((one same).1 none),
-      )) is.at;
+      (λ k x one same. ((one same).0, λ none. waked_halved (stage_of w.trace) x (if x.powered then None else x.half) keeps ((one same).1 none))) is.at;
 }
 is_step w (event.Power h on) c g here runs keeps is next = record {
   woken = is.woken;
@@ -260,8 +243,7 @@ is_first : (w : World) (c g : ℕ) (f : Forward) (h : Answer) → Allowed w (eve
     → (gear_at w g).powered ≡ true → Runs (happens w (event.Sent c f h)) c → Is (happens w (event.Sent c f h)) g
 is_first w c g f h here begun initialises powered next = on (goes_on w c (trace_running w c ++ entry f h ∷ [])) refl where
   stage_so : stage_of (trace_running w c ++ entry f h ∷ []) ≡ stage.InitialisedOnce
-  stage_so = stage_more (trace_running w c) (entry f h) ∙ ap (λ s. next_stage s (command_of f) h) begun
-      ∙ ap (λ d. next_stage stage.Terminated d h) initialises
+  stage_so = stage_more (trace_running w c) (entry f h) ∙ ap (λ s. next_stage s (command_of f) h) begun ∙ ap (λ d. next_stage stage.Terminated d h) initialises
 
   row : Each fresh (There stage.InitialisedOnce g) (row_after Everyone (command_of f) 0 w.gear w.left)
   row i in_row =

@@ -23,8 +23,7 @@ yes_compared g v e = go (is_enabled g.state) (nat_le g.random (value_of g.search
   go : (a b : Bool) → is_enabled g.state ≡ a → nat_le g.random (value_of g.search) ≡ b → (if a && b then Some YES else None) ≡ Some v
       → (g.state ≡ Enabled) × (g.random ≤ value_of g.search)
   go true true enabled below e = (enabled_is g.state enabled, test g.random (value_of g.search) below)
-  go true false enabled below e = absurd (cc)
-  go false b enabled below e = absurd (cc)
+  go _ _ enabled below e = absurd (cc)
 
 silent_none : (bytes : List ℕ) → heard_of bytes ≡ Silence → bytes ≡ []
 silent_none [] e = refl
@@ -144,8 +143,7 @@ opened_apart w drawn opened = drawn_apart w drawn opened.drawn
 same_short : (a : ℕ) → (a == a) ≡ true
 same_short a = grind (arith, nat_tests)
 
-pub nobody_answers : (w : World) (a : ℕ) (part : Part) → answers_of Everyone (RandomByte a part) 0 w.gear ≡ []
-    → EachPowered w (λ g. g.short ≡ Some a → ⊥)
+pub nobody_answers : (w : World) (a : ℕ) (part : Part) → answers_of Everyone (RandomByte a part) 0 w.gear ≡ [] → EachPowered w (λ g. g.short ≡ Some a → ⊥)
 nobody_answers w a part none g there on short =
     let tells : answer (RandomByte a part) (gear_at w g) ≡ Some (byte_at part (gear_at w g).random) = rw (short, same_short a) refl in
     subst (λ xs. Has xs (byte_at part (gear_at w g).random)) none

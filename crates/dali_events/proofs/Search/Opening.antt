@@ -1,6 +1,6 @@
 use Rattle.std.proofs.Common.{◌≡◌, ℕ, ◌+◌, ◌<◌, ◌≤◌, ◌⊎◌, inl, inr, Bool, true, false, zero, suc, List, [], ◌∷◌, refl, sym, subst, arith, length, get_or}
 use Rattle.std.{proofs.Common.{Option, Some, None, add-zero, zero-add, ◌-◌, ◌&&◌, ◌==◌, if◌then◌else◌}, specs.Prelude.unwrap_or}
-use Rattle.dali_frame.specs.{Random.{value_of, MASK24}, Short.short_of, declared.frames.Answer.{Answer, TheVariants.{Silence, Byte, Damaged}}}
+use Rattle.dali_frame.specs.{Random.{value_of, MASK24}, Short.short_of, declared.frames.Answer.{Answer, TheVariants.{Silence, Byte}}}
 use Rattle.dali_frame.specs.declared.numbers.SearchAddress.{SearchAddress}
 use Rattle.dali_special.specs.{Command.MASK, declared.command.Command.{Command, TheVariants.{Terminate, Initialise, Randomise, Withdraw, SearchHigh}}}
 use Rattle.dali_special.specs.declared.command.{Command.TheVariants.{SearchMiddle, SearchLow, Program, QueryShort, Compare, RandomByte}, Part.TheVariants.High}
@@ -21,23 +21,16 @@ record DrawsNumber (reach : Reach) (c : Command) (k : ℕ) (gs : List Gear) (lef
 
 draws_here : (reach : Reach) (c : Command) (k : ℕ) (g : Gear) (gs : List Gear) (left : List ℕ) → takes reach k g ≡ true → draws_a_number c g ≡ true
     → draws_needed reach c k (g ∷ gs) ≤ length left → DrawsNumber reach c k (g ∷ gs) left 0
-draws_here reach c k g gs [] t w enough =
-    absurd (let more : 1 + draws_needed reach c (k + 1) gs ≤ 0 = rw (t, w) at enough in omega arith)
-draws_here reach c k g gs (r ∷ left) t w enough = record {
-  number = r;
-  drawn = rw (t, w, add-zero) (inl refl);
-  moved = rw t refl;
-}
+draws_here reach c k g gs [] t w enough = absurd (let more : 1 + draws_needed reach c (k + 1) gs ≤ 0 = rw (t, w) at enough in omega arith)
+draws_here reach c k g gs (r ∷ left) t w enough = record { number = r; drawn = rw (t, w, add-zero) (inl refl); moved = rw t refl }
 
 has_drawn_one : (b : Bool) (k : ℕ) (left : List ℕ) (more : List (ℕ × ℕ)) (x : ℕ × ℕ) → Has more x → Has (drawn_one b k left more) x
-has_drawn_one false k left more x h = h
-has_drawn_one true k [] more x h = h
 has_drawn_one true k (r ∷ left) more x h = inr h
+has_drawn_one _ k _ more x h = h
 
 enough_left : (b : Bool) (n : ℕ) (left : List ℕ) → (if b then 1 else 0) + n ≤ length left → n ≤ length (left_after b left)
-enough_left false n left h = omega arith
 enough_left true n [] h = omega arith
-enough_left true n (r ∷ left) h = omega arith
+enough_left _ n _ h = omega arith
 
 draws_from : (reach : Reach) (c : Command) (k : ℕ) (gs : List Gear) (left : List ℕ) (i : ℕ) → i < length gs → draws_needed reach c k gs ≤ length left
     → takes reach (k + i) (get_or gs i fresh) ≡ true → draws_a_number c (get_or gs i fresh) ≡ true → DrawsNumber reach c k gs left i
@@ -78,21 +71,16 @@ Opens _ g = Unit {0}
 
 opens_doubted : (h : Answer) (g : Gear) → (g.half ≡ None) × (g.state ≡ Enabled) → Opens (doubted h) g
 opens_doubted Silence g k = k
-opens_doubted (Byte v) g k = tt
-opens_doubted Damaged g k = tt
+opens_doubted _ g k = tt
 
 opens_queried : (r : SearchAddress) (h : Answer) (g : Gear) → Opens (queried r h) g
-opens_queried r Silence g = tt
-opens_queried r Damaged g = tt
 opens_queried r (Byte v) g = go (short_of v) (v == MASK) where
   go : (o : Option ℕ) (m : Bool) → Opens (named r o m) g
-  go (Some b) m = tt
   go None true = tt
-  go None false = tt
+  go _ _ = tt
+opens_queried r _ g = tt
 
 opens_verified : (r : SearchAddress) (a : ℕ) (h : Answer) (g : Gear) → Opens (verified r a h) g
-opens_verified r a Silence g = tt
-opens_verified r a Damaged g = tt
 opens_verified r a (Byte v) g = go (short_of v) where
   go : (o : Option ℕ) → Opens (answered r a o) g
   go None = tt
@@ -100,6 +88,7 @@ opens_verified r a (Byte v) g = go (short_of v) where
     same : (m : Bool) → Opens (if m then stage.Confirmed r a else stage.Inconclusive r (Some b)) g
     same true = tt
     same false = tt
+opens_verified r a _ g = tt
 
 opens_middle : (a d : ℕ) (high : Option ℕ) (h : Answer) (g : Gear) → Opens (next_stage (stage.HighAsked a high) (RandomByte d Middle) h) g
 opens_middle a d high h g = go (d == a) where
@@ -128,9 +117,6 @@ opens_hunted : (r : SearchAddress) (last : Option Answer) (left : ℕ) (c : Comm
 opens_hunted r last left c h g = go (left == 0) where
   asked : (c : Command) → Opens (unwrap_or (hunted r (left - 1) c h) stage.Over) g
   asked (SearchHigh high) = tt
-  asked (SearchMiddle middle) = tt
-  asked (SearchLow low) = tt
-  asked Compare = tt
   asked _ = tt
 
   go : (t : Bool) → Opens (unwrap_or (if t then None else hunted r (left - 1) c h) stage.Over) g
@@ -144,7 +130,6 @@ opens_step b xs stage.Terminated (Initialise Unaddressed) h g x on k none = reme
 opens_step b xs stage.InitialisedOnce (Initialise Unaddressed) h g x on k none = enables g (k none) none
 opens_step b xs stage.Initialised Randomise h g x on k none = (remembers_randomise g (k none).0, (k none).1)
 opens_step b xs stage.Initialised (SearchHigh high) h g x on k none = (refl, (k none).1)
-opens_step b xs (stage.WokenHigh high) (SearchLow low) h g x on k none = tt
 opens_step b xs (stage.WokenHigh high) (SearchMiddle middle) h g x on k none = (refl, (k none).1)
 opens_step b xs (stage.WokenLow high low) (SearchMiddle middle) h g x on k none = tt
 opens_step b xs (stage.WokenMiddle high middle) Compare h g x on k none = opens_doubted h (gear_taken Compare x g) (refl, (k none).1)
@@ -154,13 +139,11 @@ opens_step b xs (stage.Programmed r a) QueryShort h g x on k none = opens_verifi
 opens_step b xs stage.RandomisedOnce Randomise h g x on k none = tt
 opens_step b xs (stage.HighSent high) (SearchMiddle middle) h g x on k none = tt
 opens_step b xs (stage.MiddleSent high middle) (SearchLow low) h g x on k none = tt
-opens_step b xs (stage.HighSent high) (SearchLow low) h g x on k none = tt
 opens_step b xs (stage.LowSent high low) (SearchMiddle middle) h g x on k none = tt
 opens_step b xs (stage.Hunted r last left) c h g x on k none = opens_hunted r last left c h (gear_taken c x g)
 opens_step b xs stage.Free (RandomByte a High) h g x on k none = tt
 opens_step b xs (stage.HighAsked a high) (RandomByte d Middle) h g x on k none = opens_middle a d high h (gear_taken (RandomByte d Middle) x g)
 opens_step b xs (stage.MiddleAsked a bytes) (RandomByte d Low) h g x on k none = opens_low a d bytes h (gear_taken (RandomByte d Low) x g)
-opens_step b xs (stage.NumberSent r) Withdraw h g x on k none = tt
 opens_step b xs (stage.Found r a) Withdraw h g x on k none = tt
 opens_step b xs (stage.Unnamed r) (Program (Some a)) h g x on k none = tt
 opens_step b xs (stage.Confirmed r a) Withdraw h g x on k none = tt

@@ -1,5 +1,5 @@
-use Rattle.std.proofs.Common.{◌≡◌, ℕ, ◌⊎◌, inl, inr, true, List, [], ◌∷◌, ◌++◌, refl, sym, ap, subst, ◌∙◌, arith, append_assoc, append-nil, Some, None, ◌==◌}
-use Rattle.std.{proofs.lemmas.Bool.Decides.nat_tests, specs.List.AllByRecursion}
+use Rattle.std.proofs.Common.{◌≡◌, ℕ, ◌⊎◌, inl, inr, List, [], ◌∷◌, ◌++◌, refl, sym, ap, subst, ◌∙◌, append_assoc, append-nil, Some, None}
+use Rattle.std.{specs.List.AllByRecursion}
 use Rattle.dali_frame.specs.{Random.{value_of, MASK24}, declared.{frames.Answer.{Answer, TheVariants.Silence}, numbers.SearchAddress.SearchAddress}}
 use Rattle.dali_special.specs.{Command.command_of, declared.command.Command.TheVariants.{Terminate, Initialise, Compare, SearchHigh, SearchMiddle, SearchLow}}
 use Rattle.dali_special.specs.declared.command.Target.TheVariants.{Unaddressed}
@@ -7,7 +7,8 @@ use Rattle.dali_script.specs.{Scripts.IsFront, Stages.stage_of, declared.{orders
 use Rattle.dali_script.specs.declared.{stage.Stage.TheVariants.{InitialisedOnce, Initialised, WokenHigh, WokenLow, Hunted}, trace.Entry.Entry}
 use Rattle.dali_events.specs.{Calling.{Runs, RunsOn, Calls, Orders, HasCalled, roll_call}, Happens.{happens, trace_running}, Plan.Plan, Runs.{after, after_all}}
 use Rattle.dali_events.{specs.{Runs.IsRun, Searching.sent_event, World.{World, start}, declared.event.Event.Event}, proofs.Invariant.Growing.after_both}
-use Rattle.dali_events.proofs.{Invariant.Growing.{allowed_front, leaves_front}, Search.{Called.called, Traced.{IsAmong, traced, runs_part}}}
+use Rattle.dali_events.proofs.Invariant.{Growing.{all_front, all_more}, Safe.run_front}
+use Rattle.dali_events.proofs.Search.{Called.{called, running_owned}, Traced.{IsAmong, traced, runs_part, no_part}}
 use Rattle.dali_events.specs.declared.event.Event.TheVariants as event
 
 -- THE ROLL WAS CALLED, AND NOBODY WAS HEARD: from the frames of the transaction to the log.
@@ -90,8 +91,7 @@ whole_call n [] x k s = absurd (not_yet _ _ s (stage_1 x k) (λ r left e. absurd
 whole_call n (a ∷ []) x k s = absurd (not_yet _ _ s (stage_2 a x k.0 k.2) (λ r left e. absurd (cc)))
 whole_call n (a ∷ b ∷ []) x k s = absurd (not_yet _ _ s (stage_3 a b x k.0 k.2.0 k.2.2) (λ r left e. absurd (cc)))
 whole_call n (a ∷ b ∷ c ∷ []) x k s = absurd (not_yet _ _ s (stage_4 n a b c x k.0 k.2.0 k.2.2.0 k.2.2.2) (λ r left e. absurd (cc)))
-whole_call n (a ∷ b ∷ c ∷ d ∷ []) x k s =
-    absurd (not_yet _ _ s (stage_5 n a b c d k.0 k.2.0 k.2.2.0 k.2.2.2.0 x k.2.2.2.2) (λ r left e. absurd (cc)))
+whole_call n (a ∷ b ∷ c ∷ d ∷ []) x k s = absurd (not_yet _ _ s (stage_5 n a b c d k.0 k.2.0 k.2.2.0 k.2.2.2.0 x k.2.2.2.2) (λ r left e. absurd (cc)))
 whole_call n (a ∷ b ∷ c ∷ d ∷ e ∷ []) x k s =
     absurd (not_yet _ _ s (stage_6 n a b c d k.0 k.2.0 k.2.2.0 k.2.2.2.0 e x k.2.2.2.2.0 k.2.2.2.2.2) (λ r left e. absurd (cc)))
 whole_call n (a ∷ b ∷ c ∷ d ∷ e ∷ f ∷ []) x k s =
@@ -122,21 +122,9 @@ whole_call n (a ∷ b ∷ c ∷ d ∷ e ∷ f ∷ g ∷ h ∷ t) x k s = elim k.
 
 -- ---------------------------------------------------------------- in a log
 
-run_front : (p : Plan) (capacity : ℕ) (es fs : List Event) → IsRun p capacity (es ++ fs) → IsRun p capacity es
-run_front p capacity es fs run = record {
-  plan = run.plan;
-  allowed = allowed_front (start p capacity) es fs run.allowed;
-  leaves = leaves_front p.used es fs run.leaves;
-}
-
 runs_both : (w : World) (c : ℕ) (es fs : List Event) → RunsOn w c es → RunsOn (after_all w es) c fs → RunsOn w c (es ++ fs)
 runs_both w c [] fs one two = two
 runs_both w c (e ∷ es) fs one two = (one.0, runs_both (happens w e) c es fs one.1 two)
-
-running_owned : (w : World) (c : ℕ) → w.bus.owner ≡ Some c → trace_running w c ≡ w.trace
-running_owned w c e = rw (e, self c) refl where
-  self : (n : ℕ) → (n == n) ≡ true
-  self n = grind (arith, nat_tests)
 
 -- the stage of what runs, where that is more than nothing
 runs_at : (w : World) (c : ℕ) (pre : List Entry) (x : Entry) (post : List Entry) (s : Stage) → trace_running w c ≡ pre ++ x ∷ post
@@ -216,8 +204,7 @@ module _ (p : Plan) (capacity : ℕ) (P : Order → Type 0) (c : ℕ) (n : Searc
           n,
           None,
           2,
-          runs_at (after p capacity (front ++ first ∷ es)) c (whole.terminate ∷ []) whole.first whole.search (Hunted n None 2)
-              running_then whole.searched,
+          runs_at (after p capacity (front ++ first ∷ es)) c (whole.terminate ∷ []) whole.first whole.search (Hunted n None 2) running_then whole.searched,
           all,
         );
         compares = whole.compares;
@@ -305,8 +292,7 @@ module _ (p : Plan) (capacity : ℕ) (P : Order → Type 0) (c : ℕ) (n : Searc
 
 pub orders_more : (P : Order → Type 0) (c : ℕ) (es : List Event) (e : Event) → AllByRecursion (Orders P c) es → Orders P c e
     → AllByRecursion (Orders P c) (es ++ e ∷ [])
-orders_more P c [] e all here = (here, tt)
-orders_more P c (f ∷ es) e all here = (all.0, orders_more P c es e all.1 here)
+orders_more P c es e all here = all_more (Orders P c) es e all here
 
 -- whoever gives no order gives such orders alone
 pub orders_none : (P : Order → Type 0) (c : ℕ) (e : Event) → Orders (λ o. ⊥) c e → Orders P c e
@@ -351,14 +337,9 @@ called_all p capacity P log (e ∷ es) c all is =
 
 -- of events that all give such orders the first do
 pub orders_front : (P : Order → Type 0) (c : ℕ) (es fs : List Event) → AllByRecursion (Orders P c) (es ++ fs) → AllByRecursion (Orders P c) es
-orders_front P c [] fs all = tt
-orders_front P c (e ∷ es) fs all = (all.0, orders_front P c es fs all.1)
+orders_front P c es fs all = all_front (Orders P c) es fs all
 
 -- ---------------------------------------------------------------- where a frame stands
-
-no_more : (es : List Event) (e : Event) (fs : List Event) → [] ≡ es ++ e ∷ fs → ⊥
-no_more [] e fs is = cc
-no_more (x ∷ es) e fs is = cc
 
 -- one event of a log stands in its front, or behind it
 abbrev pub IsBehind : List Event → List Event → List Event → Event → List Event → Type 0
@@ -379,8 +360,7 @@ stands_in (x ∷ es) fs (y ∷ front) e rest is =
     let tail : es ++ fs ≡ front ++ e ∷ rest = cc in
     go (stands_in es fs front e rest tail) head
   where
-    go : IsBehind es fs front e rest ⊎ IsWithin es fs front e rest → x ≡ y
-        → IsBehind (x ∷ es) fs (y ∷ front) e rest ⊎ IsWithin (x ∷ es) fs (y ∷ front) e rest
+    go : IsBehind es fs front e rest ⊎ IsWithin es fs front e rest → x ≡ y → IsBehind (x ∷ es) fs (y ∷ front) e rest ⊎ IsWithin (x ∷ es) fs (y ∷ front) e rest
     go (inl k) same = inl (k.0, ap (λ z. z ∷ front) (sym same) ∙ ap (λ l. x ∷ l) k.1, k.2)
     go (inr k) same = inr (k.0, ap (λ z. z ∷ es) same ∙ ap (λ l. y ∷ l) k.1, k.2)
 
@@ -391,14 +371,9 @@ all_last P (x ∷ es) e all = all_last P es e all.1
 last_of : (P : Event → Type 0) (es : List Event) (e : Event) (front : List Event) (x : Event) (rest : List Event) → es ++ e ∷ [] ≡ front ++ x ∷ rest
     → AllByRecursion P rest → (e ≡ x) ⊎ P e
 last_of P [] e [] x rest is all = inl (cc)
-last_of P [] e (y ∷ front) x rest is all = absurd (no_more front x rest cc)
+last_of P [] e (y ∷ front) x rest is all = absurd (no_part front x rest cc)
 last_of P (z ∷ es) e [] x rest is all = inr (all_last P es e (subst (λ l. AllByRecursion P l) (let tail : rest ≡ es ++ e ∷ [] = cc in tail) all))
-last_of P (z ∷ es) e (y ∷ front) x rest is all =
-    let tail : es ++ e ∷ [] ≡ front ++ x ∷ rest = cc in last_of P es e front x rest tail all
-
-all_front : (P : Event → Type 0) (es fs : List Event) → AllByRecursion P (es ++ fs) → AllByRecursion P es
-all_front P [] fs all = tt
-all_front P (e ∷ es) fs all = (all.0, all_front P es fs all.1)
+last_of P (z ∷ es) e (y ∷ front) x rest is all = let tail : es ++ e ∷ [] ≡ front ++ x ∷ rest = cc in last_of P es e front x rest tail all
 
 -- a frame behind which c took no step stands behind each step of c
 pub sent_behind : (c : ℕ) (earlier : List Event) (i : Input) (o : Order) (later front : List Event) (x : Entry) (rest : List Event)

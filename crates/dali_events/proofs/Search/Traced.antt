@@ -2,7 +2,7 @@ use Rattle.std.proofs.Common.{◌≡◌, ℕ, ◌⊎◌, inl, inr, Bool, true, f
 use Rattle.std.proofs.{Common.if◌then◌else◌, lemmas.Bool.Decides.nat_tests}
 use Rattle.dali_frame.specs.declared.frames.{Answer.Answer, Forward.Forward}
 use Rattle.dali_arbiter.specs.Arbiter.{Arbiter, owns, bus_lapsed, bus_freed, bus_muted}
-use Rattle.dali_script.specs.declared.{orders.{Input.Input, Order.{Order, TheVariants.{Put, Commit, Done, Halt}}}, trace.Entry.Entry}
+use Rattle.dali_script.specs.declared.{orders.{Input.Input, Order.{Order, TheVariants.{Put}}}, trace.Entry.Entry}
 use Rattle.dali_events.specs.{Calling.{Runs, RunsOn}, Happens.{happens, trace_running, entry, goes_on, gives_up, bus_acted}, Runs.after_all}
 use Rattle.dali_events.specs.{Searching.sent_event, World.World, declared.event.Event.Event}
 use Rattle.dali_events.specs.declared.event.Event.TheVariants as event
@@ -14,7 +14,7 @@ use Rattle.dali_events.specs.declared.event.Event.TheVariants as event
 abbrev IsPart : List Entry → Entry → List Entry → Type 0
 IsPart t x pre = (post : List Entry) × (t ≡ pre ++ x ∷ post)
 
-no_part : (pre : List Entry) (x : Entry) (post : List Entry) → [] ≡ pre ++ x ∷ post → ⊥
+pub no_part : {A : Type 0} (pre : List A) (x : A) (post : List A) → [] ≡ pre ++ x ∷ post → ⊥
 no_part [] x post e = cc
 no_part (y ∷ pre) x post e = cc
 
@@ -61,9 +61,7 @@ nothing_runs o t c x pre none is = (runs_with o t c x pre is).1 none
 
 owner_acted : (b : Arbiter) (c : ℕ) (o : Order) → gives_up b c o ≡ false → (bus_acted b c o).owner ≡ b.owner
 owner_acted b c (Put p f) e = ap (λ x. (if x then bus_lapsed b else b).owner) e
-owner_acted b c (Commit x) e = ap (λ y. (if y then bus_lapsed b else b).owner) e
-owner_acted b c (Done x) e = ap (λ y. (if y then bus_lapsed b else b).owner) e
-owner_acted b c (Halt x) e = ap (λ y. (if y then bus_lapsed b else b).owner) e
+owner_acted b c _ e = ap (λ y. (if y then bus_lapsed b else b).owner) e
 
 before_acted : (w : World) (c d : ℕ) (i : Input) (o : Order) (x : Entry) (pre : List Entry)
     → IsPart (trace_running (happens w (event.Acted d i o)) c) x pre → IsPart (trace_running w c) x pre
@@ -135,13 +133,7 @@ found_in w c (e ∷ es) x pre is = go (found_in (happens w e) c es x pre is) whe
   here (inr earlier) runs = inr (earlier, (runs_part w c x pre earlier, runs))
 
   go : IsFoundIn (happens w e) c es x pre → IsFoundIn w c (e ∷ es) x pre
-  go (inl is) = inl (record {
-    front = e ∷ is.front;
-    rest = is.rest;
-    log = ap (λ l. e ∷ l) is.log;
-    running = is.running;
-    runs = is.runs;
-  })
+  go (inl is) = inl (record { front = e ∷ is.front; rest = is.rest; log = ap (λ l. e ∷ l) is.log; running = is.running; runs = is.runs })
   go (inr is) = here (before w c e x pre is.0) is.1
 
 -- from a world on in which none of its transactions runs

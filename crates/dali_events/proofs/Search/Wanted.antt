@@ -1,10 +1,10 @@
-use Rattle.std.proofs.Common.{◌≡◌, ◌≢◌, ℕ, ◌+◌, ◌<◌, ◌≤◌, Bool, true, false, zero, suc, List, [], ◌∷◌, refl, sym, subst, ◌∙◌, arith, length, Option, Some, None}
+use Rattle.std.proofs.Common.{◌≡◌, ◌≢◌, ℕ, ◌+◌, ◌<◌, ◌≤◌, Bool, true, false, zero, suc, List, [], ◌∷◌, refl, sym, subst, ◌∙◌, arith, length, Option, None}
 use Rattle.std.proofs.{Common.{◌&&◌, ◌||◌, ◌==◌, not, is_some, if◌then◌else◌}, lemmas.{Bool.Decides.nat_tests, List.{Folds.list_any_at, Sums.sum_by-cons}}}
 use Rattle.std.specs.List.{list_any, count_by}
 use Rattle.dali_frame.specs.Random.{MASK24}
 use Rattle.dali_special.specs.declared.command.Command.{Command}
 use Rattle.dali_gear.specs.{Gear.{Gear, fresh, is_enabled, is_active, gear_taken}, Row.{takes, row_after, drawn_of}, declared.row.Reach.TheVariants.Everyone}
-use Rattle.dali_gear.specs.declared.state.InitialisationState.{InitialisationState, TheVariants.{Disabled, Enabled, Withdrawn}}
+use Rattle.dali_gear.specs.declared.state.InitialisationState.{InitialisationState, TheVariants.{Enabled}}
 use Rattle.dali_events.{specs.Wanted.{is_wanted, wants, is_bare, gear_of, OfPowered, IsOpened, NoneNamed}, proofs.Invariant.Sending.powered_takes}
 use Rattle.dali_events.proofs.Invariant.{Sending.takes_powered, Takes.{Moved, stays, goes, moves_at}}
 
@@ -24,9 +24,8 @@ pub wanted_powered : (g : Gear) → is_wanted g ≡ true → g.powered ≡ true
 wanted_powered g e = (both_pass g.powered (is_enabled g.state) e).0
 
 pub enabled_is : (s : InitialisationState) → is_enabled s ≡ true → s ≡ Enabled
-enabled_is Disabled e = absurd (cc)
 enabled_is Enabled e = refl
-enabled_is Withdrawn e = absurd (cc)
+enabled_is _ e = absurd (cc)
 
 pub wanted_enabled : (g : Gear) → is_wanted g ≡ true → g.state ≡ Enabled
 wanted_enabled g e = enabled_is g.state (both_pass g.powered (is_enabled g.state) e).1
@@ -60,8 +59,7 @@ pub bare_is : (g : Gear) → is_bare g ≡ true → (g.powered ≡ true) × (g.s
 bare_is g e = go g.powered g.short refl refl e where
   go : (b : Bool) (o : Option ℕ) → g.powered ≡ b → g.short ≡ o → (b && not (is_some o)) ≡ true → (g.powered ≡ true) × (g.short ≡ None)
   go true None on short e = (on, short)
-  go true (Some a) on short e = absurd (cc)
-  go false o on short e = absurd (cc)
+  go _ _ on short e = absurd (cc)
 
 pub is_bare_by : (g : Gear) → g.powered ≡ true → g.short ≡ None → is_bare g ≡ true
 is_bare_by g on none = rw (on, none) refl
@@ -73,40 +71,32 @@ count_first p g gs = sum_by-cons (λ x. if p x then 1 else 0) g gs
 pub count_same : (p q : Gear → Bool) (gs hs : List Gear) → length hs ≡ length gs → ((k : ℕ) → k < length gs → q (gear_of hs k) ≡ p (gear_of gs k))
     → count_by q hs ≡ count_by p gs
 count_same p q [] [] e same = refl
-count_same p q [] (h ∷ hs) e same = absurd (omega arith)
-count_same p q (g ∷ gs) [] e same = absurd (omega arith)
 count_same p q (g ∷ gs) (h ∷ hs) e same =
     let here : q h ≡ p g = same 0 (omega arith) in
     let rest : count_by q hs ≡ count_by p gs = count_same p q gs hs (omega arith) (λ k in_row. same (suc k) (omega arith)) in
     rw (count_first q h hs, count_first p g gs, here, rest) refl
+count_same p q _ _ e same = absurd (omega arith)
 
 one_at_most : (a b : Bool) (m n : ℕ) → (a ≡ true → b ≡ true) → m ≤ n → (if a then 1 else 0) + m ≤ (if b then 1 else 0) + n
-one_at_most true true m n pass h = omega arith
 one_at_most true false m n pass h = absurd (let there : false ≡ true = pass refl in cc)
-one_at_most false true m n pass h = omega arith
-one_at_most false false m n pass h = omega arith
+one_at_most _ _ m n pass h = omega arith
 
 pub count_at_most : (p q : Gear → Bool) (gs hs : List Gear) → length hs ≡ length gs
     → ((k : ℕ) → k < length gs → q (gear_of hs k) ≡ true → p (gear_of gs k) ≡ true) → count_by q hs ≤ count_by p gs
 count_at_most p q [] [] e pass = omega arith
-count_at_most p q [] (h ∷ hs) e pass = absurd (omega arith)
-count_at_most p q (g ∷ gs) [] e pass = absurd (omega arith)
 count_at_most p q (g ∷ gs) (h ∷ hs) e pass =
     rw (count_first q h hs, count_first p g gs)
     (one_at_most (q h) (p g) (count_by q hs) (count_by p gs) (pass 0 (omega arith))
     (count_at_most p q gs hs (omega arith) (λ k in_row. pass (suc k) (omega arith))))
+count_at_most p q _ _ e pass = absurd (omega arith)
 
 one_less : (a b : Bool) (m n : ℕ) → (a ≡ true → b ≡ true) → m < n → (if a then 1 else 0) + m < (if b then 1 else 0) + n
-one_less true true m n pass h = omega arith
 one_less true false m n pass h = absurd (let there : false ≡ true = pass refl in cc)
-one_less false true m n pass h = omega arith
-one_less false false m n pass h = omega arith
+one_less _ _ m n pass h = omega arith
 
 pub count_less : (p q : Gear → Bool) (gs hs : List Gear) (i : ℕ) → length hs ≡ length gs
     → ((k : ℕ) → k < length gs → q (gear_of hs k) ≡ true → p (gear_of gs k) ≡ true)
     → i < length gs → p (gear_of gs i) ≡ true → q (gear_of hs i) ≡ false → count_by q hs < count_by p gs
-count_less p q [] hs i e pass h was now = absurd (omega arith)
-count_less p q (g ∷ gs) [] i e pass h was now = absurd (omega arith)
 count_less p q (g ∷ gs) (h ∷ hs) zero e pass in_row was now =
     let rest : count_by q hs ≤ count_by p gs = count_at_most p q gs hs (omega arith) (λ k in_row. pass (suc k) (omega arith)) in
     rw (count_first q h hs, count_first p g gs, was, now) (omega (arith, rest))
@@ -114,6 +104,7 @@ count_less p q (g ∷ gs) (h ∷ hs) (suc i) e pass in_row was now =
     rw (count_first q h hs, count_first p g gs)
     (one_less (q h) (p g) (count_by q hs) (count_by p gs) (pass 0 (omega arith))
     (count_less p q gs hs i (omega arith) (λ k in_row. pass (suc k) (omega arith)) (omega arith) was now))
+count_less p q _ _ i e pass h was now = absurd (omega arith)
 
 -- two tests that pass alike
 pub same_tests : (a b : Bool) → (a ≡ true → b ≡ true) → (b ≡ true → a ≡ true) → a ≡ b

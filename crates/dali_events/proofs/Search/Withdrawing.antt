@@ -101,11 +101,10 @@ withdrawn_count gs left r seek wants =
 withdraws_active : (n : ℕ) (g h : Gear) → Withdraws n g h → is_active h.state ≡ true → is_active g.state ≡ true
 withdraws_active n g h w active = go g.state refl where
   go : (s : InitialisationState) → g.state ≡ s → is_active g.state ≡ true
-  go Enabled is = rw is refl
-  go Withdrawn is = rw is refl
   go Disabled is =
       let same : h.state ≡ g.state = w.others (λ up e random. let never : Disabled ≡ Enabled = sym is ∙ e in absurd (cc)) in
       subst (λ s. is_active s ≡ true) same active
+  go _ is = rw is refl
 
 withdraws_enabling : (n : ℕ) (g h : Gear) → Withdraws n g h → (g.state ≡ Enabled → g.random ≡ n → HasShort g) → Enabling g → Enabling h
 withdraws_enabling n g h w named was none =
