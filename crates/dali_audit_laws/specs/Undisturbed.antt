@@ -19,7 +19,7 @@ use Rattle.dali_events.specs.Plan.{Plan}
 use Rattle.dali_events.specs.World.{World, start}
 use Rattle.dali_events.specs.Happens.{happens, trace_running, gives_up}
 use Rattle.dali_events.specs.Runs.{IsRun}
-use Rattle.dali_audited.specs.Capture.{frames_of, is_randomise, begins_at, ends_at, next_at}
+use Rattle.dali_audit_laws.specs.Capture.{frames_of, is_randomise, begins_at, ends_at, next_at}
 
 -- WHERE A TRANSACTION IS NOT TO BE LEFT: between the two frames of a pair, and before the query
 -- that asks for a short address that was programmed

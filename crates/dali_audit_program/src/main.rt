@@ -1,12 +1,12 @@
-//! `dali_auditor` reads a capture of a bus, a log or a value change dump, from standard input, and says which rules
-//! were broken and which gear has which short address. It is `dali_sim audit`.
+//! `dali_audit_program` reads a capture of a bus, a log or a value change dump, from standard input, and says which
+//! rules were broken and which gear has which short address. It is `dali_sim audit`.
 //!
 //! Words: `--wire NAME` and `--inverted` for a dump; `--json` for one line of JSON, `--items` for what was heard, as a
 //! log, `--bench` for a script of a bench.
 #![tactic(auto)]
 
 ghost use Rattle.std.specs.Prelude.{◌≡◌};
-ghost use Rattle.dali_auditor.specs.Ends.{judged};
+ghost use Rattle.dali_audit_program.specs.Ends.{judged};
 
 mod asked;
 mod ended;

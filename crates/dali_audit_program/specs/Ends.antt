@@ -2,9 +2,9 @@ use Rattle.std.specs.Prelude.{ℕ, Bool, true, false, Result, Ok, Err}
 use Rattle.dali_audit.specs.declared.places.BenchError.{BenchError}
 use Rattle.dali_audit.specs.declared.places.BenchError.TheVariants as bench
 use Rattle.dali_capture.specs.Faults.{status_of as unread_status}
-use Rattle.dali_auditor.specs.declared.ended.Ended.{Ended}
-use Rattle.dali_auditor.specs.declared.ended.Ended.TheVariants.{Unread, Refused, Broken}
-use Rattle.dali_auditor.specs.declared.ended.Ended.TheVariants.{TooManyGear, TooLong}
+use Rattle.dali_audit_program.specs.declared.ended.Ended.{Ended}
+use Rattle.dali_audit_program.specs.declared.ended.Ended.TheVariants.{Unread, Refused, Broken}
+use Rattle.dali_audit_program.specs.declared.ended.Ended.TheVariants.{TooManyGear, TooLong}
 
 -- THE EXIT STATUSES
 abbrev pub status_of : Ended → ℕ

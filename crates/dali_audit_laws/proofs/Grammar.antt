@@ -18,7 +18,7 @@ use Rattle.dali_script.specs.declared.stage.Stage.TheVariants as stage
 use Rattle.dali_audit.specs.Bus.{number, repeats, completes, same_frame, addresses, begun_after, sent_by, byte_heard as spelled_on, same_place, same_number}
 use Rattle.dali_audit.specs.{Bus.told_apart, declared.bus.Bus.Bus, declared.bus.First.First, declared.bus.Search.Search, declared.bus.Spelled.Spelled}
 use Rattle.dali_audit.specs.declared.bus.Spelled.TheVariants as spelled
-use Rattle.dali_audited.specs.{Capture.is_randomise, Capture.rest_before, Capture.item_at, Undisturbed.AwaitsMore}
+use Rattle.dali_audit_laws.specs.{Capture.is_randomise, Capture.rest_before, Capture.item_at, Undisturbed.AwaitsMore}
 
 -- WHAT A STAGE OF THE RUNNING TRANSACTION SAYS OF THE BUS as the audit knows it, variable by variable
 

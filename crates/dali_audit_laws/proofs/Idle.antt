@@ -11,7 +11,7 @@ use Rattle.dali_gear.specs.declared.state.InitialisationState.{InitialisationSta
 use Rattle.dali_capture.specs.declared.item.Item.{Item}
 use Rattle.dali_audit.specs.{Bus.sent_by, Bus.passed, Bus.is_over, Findings.asks_initialised, Seen.is_silence, declared.bus.Begun.Begun, declared.bus.Bus.Bus}
 use Rattle.dali_events.proofs.Invariant.{Sending.powered_takes, Takes.Moved, Takes.stays, Takes.goes, Takes.moves_at, Takes.row_length}
-use Rattle.dali_audited.{specs.Undisturbed.open_since, proofs.Replies.Replies, proofs.Replies.somebody, proofs.Replies.several}
+use Rattle.dali_audit_laws.{specs.Undisturbed.open_since, proofs.Replies.Replies, proofs.Replies.somebody, proofs.Replies.several}
 
 -- AFTER TERMINATE NO GEAR TAKES PART, until an INITIALISE is complete
 

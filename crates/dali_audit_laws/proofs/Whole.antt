@@ -33,15 +33,16 @@ use Rattle.dali_events.proofs.Invariant.{Gifts.IsOwned, Known.Knows, Known.found
 use Rattle.dali_events.proofs.Invariant.{Safe.holds_step, Safe.sent_changes, Safe.found_names, Sending.KnowsAll, Sending.lawful_of, Sending.follows_of}
 use Rattle.dali_events.proofs.Invariant.{Sending.knows_running, Sending.powered_takes, Takes.Moved, Takes.stays, Takes.goes, Takes.moves_at, Takes.row_length}
 use Rattle.dali_events.specs.declared.event.Event.TheVariants as event
-use Rattle.dali_audited.specs.Capture.{frames_of, items_from, answers_at, over_at, begins_at, ends_at, is_randomise, rest_before, item_at, WAIT}
-use Rattle.dali_audited.specs.Tables.{Holds, IsTableOf}
-use Rattle.dali_audited.specs.Undisturbed.{AwaitsMore, DisturbsNothing, DisturbNothing, open_since, Within, AreInTime}
-use Rattle.dali_audited.proofs.Changes.{apart, one_answers, IsTrueChange, true_change, number_at}
-use Rattle.dali_audited.proofs.Grammar.{Fits, Paired, alone, twice, paired, completed, repeated, item_of, fits_step, leave, ended, go_on}
-use Rattle.dali_audited.proofs.Idle.{AllIdle, NoneHalf, idle_taken, half_taken, initialised, closed_from, begun_from}
-use Rattle.dali_audited.proofs.Replies.{somebody, silent, query_replies, found_here}
-use Rattle.dali_audited.proofs.Silent.{clear, in_time, no_half_pair, no_late_pair, no_early_frame, not_over, queried_next, settled_before}
-use Rattle.dali_audited.proofs.Standing.{SameGear, one_random, one_short, table_nothing, table_told, table_answered, length_after, free, unmoved, table_given}
+use Rattle.dali_audit_laws.specs.Capture.{frames_of, items_from, answers_at, over_at, begins_at, ends_at, is_randomise, rest_before, item_at, WAIT}
+use Rattle.dali_audit_laws.specs.Tables.{Holds, IsTableOf}
+use Rattle.dali_audit_laws.specs.Undisturbed.{AwaitsMore, DisturbsNothing, DisturbNothing, open_since, Within, AreInTime}
+use Rattle.dali_audit_laws.proofs.Changes.{apart, one_answers, IsTrueChange, true_change, number_at}
+use Rattle.dali_audit_laws.proofs.Grammar.{Fits, Paired, alone, twice, paired, completed, repeated, item_of, fits_step, leave, ended, go_on}
+use Rattle.dali_audit_laws.proofs.Idle.{AllIdle, NoneHalf, idle_taken, half_taken, initialised, closed_from, begun_from}
+use Rattle.dali_audit_laws.proofs.Replies.{somebody, silent, query_replies, found_here}
+use Rattle.dali_audit_laws.proofs.Silent.{clear, in_time, no_half_pair, no_late_pair, no_early_frame, not_over, queried_next, settled_before}
+use Rattle.dali_audit_laws.proofs.Standing.{SameGear, one_random, one_short, table_nothing, table_told, table_answered, length_after}
+use Rattle.dali_audit_laws.proofs.Standing.{free, unmoved, table_given}
 
 -- a gear that takes part, and has the random address of this search address
 pub record Stands (gs : List Gear) (r : SearchAddress) : Type 0 where

@@ -19,8 +19,8 @@ use Rattle.dali_audit.specs.declared.bus.Spelled.TheVariants as spelled
 use Rattle.dali_audit.specs.declared.holders.Change.TheVariants as change
 use Rattle.dali_events.specs.{Plan.Plan, Plan.IsPlan, Promise.Names, Wanted.gear_of, World.World}
 use Rattle.dali_events.proofs.Invariant.{Drawn.HasDrawn, Drawn.are_drawn, Known.found_random, Known.search_known, Safe.Holds as HoldsAll, Sending.KnowsAll}
-use Rattle.dali_audited.{specs.Tables.Holds, proofs.Grammar.IsAt, proofs.Grammar.Fits, proofs.Replies.Replies}
-use Rattle.dali_audited.proofs.{Replies.Two, Replies.several, Replies.somebody, Replies.query_replies, Replies.byte_replies, Standing.AreApart, Standing.IsTold}
+use Rattle.dali_audit_laws.{specs.Tables.Holds, proofs.Grammar.IsAt, proofs.Grammar.Fits, proofs.Replies.Replies, proofs.Replies.Two}
+use Rattle.dali_audit_laws.proofs.{Replies.several, Replies.somebody, Replies.query_replies, Replies.byte_replies, Standing.AreApart, Standing.IsTold}
 
 -- ---------------------------------------------------------------- gear of a run
 module _ (p : Plan) (plan : IsPlan p) (w : World) (k : HoldsAll p w) where

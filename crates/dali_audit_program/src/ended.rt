@@ -33,7 +33,7 @@ impl fmt::Display for Ended {
 }
 
 impl Failed for Ended {
-    ghost use Rattle.dali_auditor.specs.Ends.{status_of};
+    ghost use Rattle.dali_audit_program.specs.Ends.{status_of};
 
     ghost status_of = { status_of };
 
@@ -49,7 +49,7 @@ impl Failed for Ended {
 
 impl From<io::Error> for Ended {
     ghost use Rattle.std.specs.Prelude.{◌≡◌};
-    ghost use Rattle.dali_auditor.specs.declared.ended.Ended.TheVariants.{Refused};
+    ghost use Rattle.dali_audit_program.specs.declared.ended.Ended.TheVariants.{Refused};
 
     ghost from_gives = { λ _ ended. ended ≡ Refused };
 
@@ -60,7 +60,7 @@ impl From<io::Error> for Ended {
 
 impl From<BenchError> for Ended {
     ghost use Rattle.std.specs.Prelude.{◌≡◌};
-    ghost use Rattle.dali_auditor.specs.Ends.{ended_by};
+    ghost use Rattle.dali_audit_program.specs.Ends.{ended_by};
 
     ghost from_gives = { λ error ended. ended ≡ ended_by error };
 

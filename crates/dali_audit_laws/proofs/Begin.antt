@@ -6,8 +6,8 @@ use Rattle.dali_audit.specs.{Bus.bus_at_first, Findings.known_at_first, Findings
 use Rattle.dali_audit.specs.declared.holders.Holder.TheVariants as holder
 use Rattle.dali_events.specs.{Plan.Plan, Plan.IsPlan, Runs.after, Wanted.gear_of, World.start, declared.event.Event.Event, declared.used.Used.Used}
 use Rattle.dali_events.proofs.Invariant.{Safe.holds_start, Starting.IsUsedOrFresh, Starting.row_at, Starting.start_count}
-use Rattle.dali_audited.{specs.Capture.capture_of, specs.Tables.Holds, specs.Tables.IsTableOf, specs.Undisturbed.IsUndisturbed, proofs.Grammar.Fits}
-use Rattle.dali_audited.proofs.Whole.{Agrees, Ended, Met, Any, IsToldOf, whole}
+use Rattle.dali_audit_laws.{specs.Capture.capture_of, specs.Tables.Holds, specs.Tables.IsTableOf, specs.Undisturbed.IsUndisturbed, proofs.Grammar.Fits}
+use Rattle.dali_audit_laws.proofs.Whole.{Agrees, Ended, Met, Any, IsToldOf, whole}
 
 -- A RUN BEGINS: the table is empty, and gear from the factory have no short address
 

@@ -10,7 +10,7 @@ use Rattle.dali_audit.specs.declared.holders.{Change.Change, Holder.Holder}
 use Rattle.dali_audit.specs.declared.holders.Change.TheVariants as change
 use Rattle.dali_audit.specs.declared.holders.Holder.TheVariants as holder
 use Rattle.dali_events.specs.Wanted.{gear_of}
-use Rattle.dali_audited.specs.Tables.{Holds, IsTableOf}
+use Rattle.dali_audit_laws.specs.Tables.{Holds, IsTableOf}
 
 -- THE TABLE AFTER A CHANGE, place by place
 

@@ -12,8 +12,8 @@ use Rattle.dali_audit.specs.{Bus.is_addressing, Bus.in_initialisation, Bus.repea
 use Rattle.dali_audit.specs.Findings.{broken_pair, half_pair, late_pair, too_early, too_close, early_frame, initialisation_over, unasked, not_queried}
 use Rattle.dali_audit.specs.{Findings.settling_time, Findings.at_where, declared.bus.Begun.Begun, declared.bus.Bus.Bus, declared.bus.First.First}
 use Rattle.dali_audit.specs.declared.seen.Seen.TheVariants as seen
-use Rattle.dali_audited.specs.Capture.{rest_before}
-use Rattle.dali_audited.proofs.Grammar.{Drawn, IsRested, Given, Fits, Paired, alone, twice, paired, item_of, same_frames}
+use Rattle.dali_audit_laws.specs.Capture.{rest_before}
+use Rattle.dali_audit_laws.proofs.Grammar.{Drawn, IsRested, Given, Fits, Paired, alone, twice, paired, item_of, same_frames}
 
 -- WHAT IS NOT TOLD OF A FRAME that follows at a stage, if the bus fits
 

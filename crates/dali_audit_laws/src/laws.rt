@@ -5,9 +5,9 @@ ghost use Rattle.dali_events.specs.declared.event.Event.{Event};
 ghost use Rattle.dali_events.specs.Plan.{Plan};
 ghost use Rattle.dali_events.specs.Runs.{after};
 ghost use Rattle.dali_audit.specs.Findings.{findings_in, known_in};
-ghost use Rattle.dali_audited.specs.Capture.{capture_of};
-ghost use Rattle.dali_audited.specs.Undisturbed.{IsUndisturbed};
-ghost use Rattle.dali_audited.specs.Tables.{IsTableOf};
+ghost use Rattle.dali_audit_laws.specs.Capture.{capture_of};
+ghost use Rattle.dali_audit_laws.specs.Undisturbed.{IsUndisturbed};
+ghost use Rattle.dali_audit_laws.specs.Tables.{IsTableOf};
 
 /// AN UNDISTURBED RUN HAS NO FINDING. The capture of every run in which nothing was disturbed breaks no rule of the
 /// audit (`findings`), and the table that the audit has of it is that of the gear (`table`).

@@ -15,8 +15,8 @@ use Rattle.dali_events.specs.{Plan.Plan, Plan.plan_of, Runs.AllAllowed, World.Wo
 use Rattle.dali_events.proofs.Histories.Openings.{at_123456, opening, visit, query, silent}
 use Rattle.dali_events.proofs.{Histories.Tested.all_allowed_by, Invariant.Growing.leave_none, Plans.plan_is}
 use Rattle.dali_events.specs.declared.event.Event.TheVariants as event
-use Rattle.dali_audited.specs.Capture.{capture_of, frames_of, is_randomise, begins_at, ends_at, next_at}
-use Rattle.dali_audited.specs.Undisturbed.{DisturbsNothing, DisturbNothing, open_since, Within, AreInTime, IsUndisturbed}
+use Rattle.dali_audit_laws.specs.Capture.{capture_of, frames_of, is_randomise, begins_at, ends_at, next_at}
+use Rattle.dali_audit_laws.specs.Undisturbed.{DisturbsNothing, DisturbNothing, open_since, Within, AreInTime, IsUndisturbed}
 
 -- AN UNDISTURBED RUN, proved by computing: one gear and one controller, an opening, a number that is reserved, an address that is
 -- given, and TERMINATE. It shows that the law speaks of something.
