@@ -60,18 +60,39 @@ module _ (rules : Rules) (change : Changes) (IsOne : Plan → Type 0) (p : Plan)
 
   -- two gear hold one short address
   two_hold : (a : ℕ) → short_of (slice_get end.gear 0) ≡ Some a → short_of (slice_get end.gear 1) ≡ Some a → Break IsOne rules change
-  two_hold a first second = (p, earlier, later, plan, kept, λ now since.
-      let same : 0 ≡ 1 = now.one_gear 0 1 a _ _ (holds_at end 0 a first) (holds_at end 1 a second) in omega arith)
+  two_hold a first second = (
+    p,
+    earlier,
+    later,
+    plan,
+    kept,
+    λ now since.
+        let same : 0 ≡ 1 = now.one_gear 0 1 a _ _ (holds_at end 0 a first) (holds_at end 1 a second) in omega arith,
+  )
 
   -- a gear has lost its short address, or its random address
   short_lost : (a : ℕ) → short_of (slice_get before.gear 0) ≡ Some a → holds a (short_of (slice_get end.gear 0)) ≡ false → Break IsOne rules change
-  short_lost a held other = (p, earlier, later, plan, kept, λ now since. let still = since 0 a _ (holds_at before 0 a held) in
-      let is = holds_by a (short_of (slice_get end.gear 0)) (ap short_of still.1 ∙ still.2) in cc)
+  short_lost a held other = (
+    p,
+    earlier,
+    later,
+    plan,
+    kept,
+    λ now since. let still = since 0 a _ (holds_at before 0 a held) in
+        let is = holds_by a (short_of (slice_get end.gear 0)) (ap short_of still.1 ∙ still.2) in cc,
+  )
 
   random_lost : (a : ℕ) → short_of (slice_get before.gear 0) ≡ Some a
       → (random_of (slice_get end.gear 0) == random_of (slice_get before.gear 0)) ≡ false → Break IsOne rules change
-  random_lost a held other = (p, earlier, later, plan, kept, λ now since. let still = since 0 a _ (holds_at before 0 a held) in
-      let is = equals (random_of (slice_get end.gear 0)) (random_of (slice_get before.gear 0)) (ap random_of still.1 ∙ still.3) in cc)
+  random_lost a held other = (
+    p,
+    earlier,
+    later,
+    plan,
+    kept,
+    λ now since. let still = since 0 a _ (holds_at before 0 a held) in
+        let is = equals (random_of (slice_get end.gear 0)) (random_of (slice_get before.gear 0)) (ap random_of still.1 ∙ still.3) in cc,
+  )
 
   -- a table names no gear
   none_named : (c a r : ℕ) → end.enrolled c a r ≡ true → list_all (λ g. not (holds a g.short)) end.gear ≡ true → Break IsOne rules change
@@ -256,7 +277,7 @@ second_opens more = send 0 Terminate ∷ Sent (Initialise 0xFF) ((0, Nothing) �
 pub unused_is_needed : BreakUnder (with_reserve used)
 unused_is_needed =
     two_hold (drawing (with_reserve used)) happens IsPlan (planned (addressed ∷ fresh ∷ [])) (is_planned _ refl refl) []
-        (second_opens (second_gets 0 0)) refl 0 refl refl
+    (second_opens (second_gets 0 0)) refl 0 refl refl
 
 -- the code of 127 is FF
 abbrev after_short : List Moment

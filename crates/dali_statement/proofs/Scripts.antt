@@ -77,13 +77,58 @@ may_program reserved r a high middle low h vacant is =
 module _ (b : Block) (records : List Assignment) (reserved : ℕ → Option ℕ) (same : (a r : ℕ) → Has records (a, r) → reserved a ≡ Some r) where
   each_script : (s : Script) → MaySend b records s → Keeps reserved at_power_on [] (steps s)
   unfolding Keeps
-  each_script (Call r cs) may =
-      (refl, never, λ h w. (refl, never, λ h w. (refl, never, λ h w. (refl, never, λ h w. (refl, never, λ h w. 
-      (refl, never, λ h w. all_asking reserved _ _ cs may.0))))))
+  each_script (Call r cs) may = (
+    refl,
+    never,
+    λ h w. (
+      refl,
+      never,
+      λ h w. (
+        refl,
+        never,
+        λ h w. (
+          refl,
+          never,
+          λ h w. (
+            refl,
+            never,
+            λ h w.
+                (refl, never, λ h w. all_asking reserved _ _ cs may.0),
+          ),
+        ),
+      ),
+    ),
+  )
   each_script (Hunt r cs) may = (refl, never, λ h w. (refl, never, λ h w. (refl, never, λ h w. all_asking reserved _ _ cs may.0)))
-  each_script (Give r a) may = (refl, never, λ high w. (refl, never, λ middle w. (refl, never, λ low w. (refl, λ e. refl, λ h vacant. (
-      may_program reserved r a high middle low h vacant (same a (value_of r) may.reserved_for), never, λ h w. (refl, λ e. refl, λ h w. (
-      refl, never, λ h w. tt)))))))
+  each_script (Give r a) may = (
+    refl,
+    never,
+    λ high w. (
+      refl,
+      never,
+      λ middle w. (
+        refl,
+        never,
+        λ low w. (
+          refl,
+          λ e. refl,
+          λ h vacant. (
+            may_program reserved r a high middle low h vacant (same a (value_of r) may.reserved_for),
+            never,
+            λ h w. (
+              refl,
+              λ e. refl,
+              λ h w. (
+                refl,
+                never,
+                λ h w. tt,
+              ),
+            ),
+          ),
+        ),
+      ),
+    ),
+  )
   each_script _ may = search rules
 
 -- ---------------------------------------------------------------- the laws

@@ -191,5 +191,5 @@ release_is_allowed =
       order = (refl, (inl refl, (Queried 4 0x123456, refl, 4, refl, λ e. apart 4 0 refl refl e)));
     })
   where
-  apart : (n m : ℕ) → n ≡ 4 → m ≡ 0 → n ≡ m → ⊥
-  apart n m four zero same = omega arith
+    apart : (n m : ℕ) → n ≡ 4 → m ≡ 0 → n ≡ m → ⊥
+    apart n m four zero same = omega arith

@@ -119,10 +119,22 @@ allowed : AllAllowedOn site (giving ++ going_on)
 unfolding command_of stage_of
 allowed =
     each_is_after AllowedOn happens_on site giving going_on given_by_rules (
-      record { up = record { known = lit< tt; up = refl }; may = inr (inl (refl, refl, (Open, tt, (refl, tt, (refl, tt, (refl, tt, refl))))));
-          draws = lit≤ tt; heard = tt }, (
-      record { up = record { known = lit< tt; up = refl }; may = inl (refl, (Open, tt, (refl, tt, (refl, tt, (refl, tt, (refl, tt, refl))))));
-          draws = lit≤ tt; heard = tt }, tt))
+      record {
+        up = record { known = lit< tt; up = refl };
+        may = inr (inl (refl, refl, (Open, tt, (refl, tt, (refl, tt, (refl, tt, refl))))));
+        draws = lit≤ tt;
+        heard = tt;
+      },
+      (
+        record {
+          up = record { known = lit< tt; up = refl };
+          may = inl (refl, (Open, tt, (refl, tt, (refl, tt, (refl, tt, (refl, tt, refl))))));
+          draws = lit≤ tt;
+          heard = tt;
+        },
+        tt,
+      ),
+    )
 
 -- the gear was given address 4 at 123456, and then has another random address
 given : ((after_on site giving).world.gifts ≡ (0, 4) ∷ []) × ((after_on site (giving ++ going_on)).world.drawn ≡ (0, 0x123456) ∷ (0, 0x0ABCDE) ∷ [])

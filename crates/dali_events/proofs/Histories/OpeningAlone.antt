@@ -97,10 +97,18 @@ allowed : AllAllowedOrAlone (start plan 8) (giving ++ drawing_again)
 unfolding command_of stage_of
 allowed =
     each_is_after AllowedOrAlone happens_or_alone (start plan 8) giving drawing_again given_by_rules (
-      record { up = record { known = lit< tt; up = refl }; may = inr (refl, inr refl); draws = lit≤ tt; heard = tt }, (
-      record { up = record { known = lit< tt; up = refl }; may = inl (refl, inr (refl, tt, refl)); draws = lit≤ tt; heard = tt }, (
-      record { up = record { known = lit< tt; up = refl }; may = inl (refl, inr (refl, tt, (refl, tt, refl))); draws = lit≤ tt; heard = tt }, (
-      record { up = record { known = lit< tt; up = refl }; may = inl (refl, inr (refl, tt, (refl, tt, (refl, tt, refl)))); draws = lit≤ tt; heard = tt }, tt))))
+      record { up = record { known = lit< tt; up = refl }; may = inr (refl, inr refl); draws = lit≤ tt; heard = tt },
+      (
+        record { up = record { known = lit< tt; up = refl }; may = inl (refl, inr (refl, tt, refl)); draws = lit≤ tt; heard = tt },
+        (
+          record { up = record { known = lit< tt; up = refl }; may = inl (refl, inr (refl, tt, (refl, tt, refl))); draws = lit≤ tt; heard = tt },
+          (
+            record { up = record { known = lit< tt; up = refl }; may = inl (refl, inr (refl, tt, (refl, tt, (refl, tt, refl)))); draws = lit≤ tt; heard = tt },
+            tt,
+          ),
+        ),
+      ),
+    )
 
 -- the gear was given address 0 at 123456, and then has another random address
 given : ((after_or_alone (start plan 8) giving).gifts ≡ (0, 0) ∷ [])
