@@ -1,6 +1,6 @@
 //! The machine that mends one short address.
 
-ghost use Rattle.std.specs.Prelude.{◌≡◌, ◌==◌, if◌then◌else◌, true, Some, None, MatchOption};
+ghost use Rattle.std.specs.Prelude.{◌≡◌, ◌==◌, if◌then◌else◌, true, false, Some, None, MatchOption};
 ghost use Rattle.std.specs.List.{list_any};
 ghost use Rattle.dali_script.specs.Due.{accepts};
 ghost use Rattle.dali_script.specs.Stages.{in_block};
@@ -257,7 +257,8 @@ impl Mending {
     /// tables are not among them.
     pub fn of(table: &Kept, others: &[Block], short: Short) -> Option<Mending>
         ensures { MatchOption result (list_any (λ b. in_block b short) others.now ≡ true)
-            (λ m. m ≡ mending_begun short table.now.enrolled) }
+            (λ m. (list_any (λ b. in_block b short) others.now ≡ false)
+            × (m ≡ mending_begun short table.now.enrolled)) }
     {
         if has_block(others, short) {
             return None;
