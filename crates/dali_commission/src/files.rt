@@ -1,7 +1,8 @@
 //! Records in files, each a SQLite database.
 
 ghost use Rattle.std.specs.Prelude.{◌≡◌, ◌++◌, ◌↔◌, ◌⊎◌, ℕ, List, [], ◌∷◌, codes, string_bytes};
-ghost use Rattle.std.specs.Prelude.{Ok, Err, IfOk, IfErr, OnOk, IfSome, None, true, IsTrue};
+ghost use Rattle.std.specs.Prelude.{Ok, Err, IfOk, IfErr, OnOk, OnErr, IfSome, None, true, IsTrue};
+ghost use Rattle.dali_sqlite.specs.declared.keep.SqliteKeep.{SqliteKeep};
 ghost use Rattle.std.specs.IoError.{error_kind, raw_os_error};
 ghost use Rattle.sqlite.specs.Files.{over_files};
 ghost use Rattle.sqlite.specs.Held.{state, IsNew};
@@ -263,15 +264,21 @@ fn opened(rt: &HostRuntime, name: &str) -> Result<Connection<FileStore<File>>, S
 /// Lends the records in a database, and answers what the borrower ended with, and the database.
 ///
 /// It does not know what the database lies in: each function that does, and has a store, costs 30 seconds of proof.
-fn lent<S: Alter + Drop, B: Borrower>(
+fn lent<S: Alter + Drop, D, B: Borrower<SqliteKeep<S>, D>>(
     conn: Connection<S>,
     block: Block,
     borrower: B,
+    beside: &mut D,
 ) -> Result<(Connection<S>, Result<B::Out, Failure>), StoreFault>
-    ensures { IfOk result (λ came. IfOk came.1 (λ out. (kept : Kept) × B.came borrower kept out)) }
+    ensures unlent { OnErr result (beside.new ≡ beside.old) }
+    ensures lent { IfOk result (λ came. (from to : SqliteKeep S) × (block_of from ≡ block)
+        × B.came borrower from to beside.old beside.new came.1) }
 {
-    let mut store = SqliteKeep::over(conn, block).map_err(StoreFault::Store)?;
-    let done = borrower.take(&mut store);
+    let mut store = match SqliteKeep::over(conn, block) {
+        Ok(store) => store,
+        Err(error) => return Err(StoreFault::Store(error)),
+    };
+    let done = borrower.take(&mut store, beside);
     Ok((store.into_connection(), done))
 }
 
@@ -347,7 +354,7 @@ fn open_one<'a>(
 }
 
 /// Opens files of records, and notes what they have.
-fn open_all<'a, F, H: Holder<F>>(
+fn open_all<'a, F, D, H: Holder<F, D>>(
     rt: &HostRuntime,
     names: &'a [String],
     holder: &H,
@@ -380,7 +387,7 @@ fn shut_one(
 }
 
 /// Closes files of records, which stay locked as long as what is answered is there.
-fn shut_all<F, H: Holder<F>>(
+fn shut_all<F, D, H: Holder<F, D>>(
     rt: &HostRuntime,
     holder: &H,
     held: Open<'_>,
@@ -474,23 +481,34 @@ fn made(alloc: Global, name: &str, end: &str) -> Result<String, StoreFault>
 }
 
 impl<'a> Stores for Files<'a> {
+    type Open = SqliteKeep<FileStore<File>>;
+
+    type Copy = SqliteKeep<FileStore<sqlite_disk::Memory>>;
+
     ghost made = { λ _ _ _. Unit {0} };
 
     ghost saw = { λ _ _. Unit {0} };
+
+    ghost opens = { λ _ _ _. Unit {0} };
 
     fn has(&self, name: &str) -> bool {
         // The opening says what it is that cannot be told.
         fs::exists(self.rt, name).unwrap_or(true)
     }
 
-    fn lend<B: Borrower>(&mut self, seen: &Seen<'_>, borrower: B) -> Result<B::Out, Failure> {
+    fn lend<D, B: Borrower<SqliteKeep<FileStore<File>>, D>>(
+        &mut self,
+        seen: &Seen<'_>,
+        borrower: B,
+        beside: &mut D,
+    ) -> Result<B::Out, Failure> {
         let (rt, name) = (self.rt, seen.name());
         let conn = opened(rt, name)?;
         if self.has(seen.journal()) {
             let _ = shut(rt, name, conn);
             return Err(Failure::Unfinished);
         }
-        let (conn, done) = lent(conn, seen.block(), borrower)?;
+        let (conn, done) = lent(conn, seen.block(), borrower, beside)?;
         let shut = shut(rt, name, conn);
         let done = done.map_err(|failure| why_failed(rt, name, failure))?;
         match shut {
@@ -499,33 +517,35 @@ impl<'a> Stores for Files<'a> {
         }
     }
 
-    fn lend_copy<B: Borrower>(
+    fn lend_copy<D, B: Borrower<SqliteKeep<FileStore<sqlite_disk::Memory>>, D>>(
         &self,
         name: &str,
         journal: &str,
         borrower: B,
+        beside: &mut D,
     ) -> Result<B::Out, Failure> {
         let mut store = copied(self.rt, name)?;
         if self.has(journal) {
             return Err(Failure::Unfinished);
         }
-        borrower.take(&mut store)
+        borrower.take(&mut store, beside)
     }
 
     fn place_of(&self, alloc: Global, name: &str) -> Result<String, Failure> {
         place(self.rt, alloc, name).map_err(|_| Failure::Store(NO_MEMORY))
     }
 
-    fn hold<H: Holder<Self>>(
+    fn hold<D, H: Holder<Self, D>>(
         &mut self,
         alloc: Global,
         names: &[String],
         mut holder: H,
+        beside: &mut D,
     ) -> Result<H::Out, Failure> {
         let mut open = Vec::new(alloc);
         let mut all = Vec::new(alloc);
         let due = match open_all(self.rt, names, &holder, &mut open, &mut all) {
-            Ok(()) => holder.take(self, &all),
+            Ok(()) => holder.take(self, &all, beside),
             Err(failure) => Err(failure),
         };
         let shut = shut_all(self.rt, &holder, open);

@@ -6,13 +6,15 @@ mod files;
 mod log;
 mod places;
 
-use dali_commission_program::run_and_say;
+use dali_commission_program::{DriverLink, run_and_say};
 use dali_console::exit_code;
 use files::Files;
+use std::io;
 use std::io::IsTerminal;
 use std::process::ExitCode;
 
 fn main(rt: HostRuntime) -> ExitCode {
     let is_terminal = IsTerminal::is_terminal(&rt.stderr());
-    exit_code(run_and_say(&rt, &mut Files::of(&rt), is_terminal))
+    let mut driver = DriverLink::new(rt.alloc(), rt.reader(), io::writer(&rt));
+    exit_code(run_and_say(&rt, &mut Files::of(&rt), &mut driver, is_terminal))
 }

@@ -1,21 +1,26 @@
-use Rattle.std.specs.Prelude.{◌≡◌, ℕ, ◌*◌, Bool, true, false, List, [], Result, Ok, Err}
+use Rattle.std.specs.Prelude.{◌≡◌, ◌⊎◌, ℕ, ◌*◌, Bool, false, List, [], ◌∷◌, length, Option, Some}
+use Rattle.std.specs.Prelude.{None, Result, Ok, Err, IfOk, IsErr}
 use Rattle.std.specs.List.{list_any}
 use Rattle.dali_script.specs.declared.block.Block.{Block}
 use Rattle.dali_script.specs.declared.orders.Input.{Input}
 use Rattle.dali_script.specs.declared.sending.Half.TheVariants as half
+use Rattle.dali_script.specs.Records.{Kept, without_records}
 use Rattle.dali_special.specs.Command.{frame}
 use Rattle.dali_commissioning.specs.declared.beginning.Checked.{Checked}
 use Rattle.dali_commissioning.specs.declared.fault.CommissionFault.{CommissionFault}
 use Rattle.dali_commissioning.specs.declared.verdict.Place.{Place}
 use Rattle.dali_commissioning.specs.declared.census.Reply.{Reply}
-use Rattle.dali_commissioning.specs.Census.{IsPut, IsAnswered, is_sent, is_silent}
+use Rattle.dali_commissioning.specs.Census.{IsPut, IsAnswered, AreCounted, is_sent, is_silent}
 use Rattle.dali_commissioning.specs.Drivers.{Talk}
 use Rattle.dali_commissioning.specs.Places.{places}
+use Rattle.dali_commissioning.specs.Unaddressed.{AreLeftOver, asking}
 use Rattle.dali_commission_said.specs.declared.failure.Failure.{Failure}
 use Rattle.dali_commission_said.specs.declared.said.Said.{Said}
 use Rattle.dali_commission_said.specs.Failures.{checked, failure_of}
 use Rattle.dali_commission_said.specs.Reports.{checked_said}
 use Rattle.dali_commission_said.specs.Said.{AreTold}
+use Rattle.dali_commission_stores.specs.Calls.{Look, Read}
+use Rattle.dali_commission_asked.specs.Ending.{If}
 use Rattle.dali_commission_asked.specs.Sharing.{is_shared, is_open, or_open}
 
 -- WHAT A CHECK COMES TO, by what it found, or why it could not be made: how it ends, what is said
@@ -37,22 +42,74 @@ check_ended (Ok found) others heard line =
     (list_any (λ reply. is_shared reply) found.replies.items)
 check_ended (Err fault) others heard line = Err (failure_of fault line)
 
--- A GEAR IS LIT: the frame of direct arc power to its short address is sent, whole
-abbrev pub IsLit : ℕ → ℕ → Talk → Talk → Type 0
-IsLit a level x y =
-    (told : Input) × IsPut 2 (frame (2 * a) level) half.Whole told x y × (is_sent told ≡ true)
+-- A GEAR IS LIT: the frame of direct arc power to its short address is put until it is sent, at
+-- most eight times
+unfoldable pub IsLitOnce : ℕ → ℕ → Bool → Talk → Talk → Type 0
+IsLitOnce a level sent x y =
+    (told : Input)
+    × IsPut 2 (frame (2 * a) level) half.Whole told x y
+    × (sent ≡ is_sent told)
 
--- A GEAR WAS SHOWN: one answered to the short address, and it was lit the most at last
-abbrev pub HasShown : ℕ → Type 0
-HasShown a =
-    ((heard : Reply) × (x y : Talk) × IsAnswered a heard x y × (is_silent heard ≡ false))
-    × ((x y : Talk) × IsLit a 254 x y)
+abbrev pub IsLitBy : ℕ → ℕ → List ℕ → Talk → Talk → Type 0
+IsLitBy a level [] x y = ⊥
+IsLitBy a level (_ ∷ more) x y =
+    (sent : Bool)
+    × (at : Talk)
+    × IsLitOnce a level sent x at
+    × If sent (y ≡ at) (IsLitBy a level more at y)
 
--- A CHECK THAT ENDED SO has said what it found
-abbrev pub HasChecked : (Said → Type 0) → List Block → Result (Unit {0}) Failure → Type 0
-HasChecked told others ended =
+unfoldable pub IsLit : ℕ → ℕ → Talk → Talk → Type 0
+IsLit a level x y = IsLitBy a level (1 ∷ 2 ∷ 3 ∷ 4 ∷ 5 ∷ 6 ∷ 7 ∷ 8 ∷ []) x y
+
+-- it goes bright, and so often dark and bright
+abbrev pub HasBlinked : ℕ → List ℕ → Talk → Talk → Type 0
+HasBlinked a [] x y = IsLit a 254 x y
+HasBlinked a (_ ∷ more) x y =
+    (bright : Talk)
+    × (dark : Talk)
+    × IsLit a 254 x bright
+    × IsLit a 0 bright dark
+    × HasBlinked a more dark y
+
+-- A GEAR WAS SHOWN: one answered to the short address, and it went bright and dark five times, and
+-- bright at last
+abbrev pub HasShown : ℕ → Talk → Talk → Type 0
+HasShown a x y =
+    (heard : Reply)
+    × (at : Talk)
+    × IsAnswered a heard x at
+    × (is_silent heard ≡ false)
+    × HasBlinked a (1 ∷ 2 ∷ 3 ∷ 4 ∷ 5 ∷ []) at y
+
+-- WHAT A CHECK PUTS: each short address is asked but those in the blocks of others, and then gear
+-- that have none
+abbrev pub HasAskedAll : List Block → Checked → Talk → Talk → Type 0
+HasAskedAll others found x y =
+    (block : Block)
+    × (at : Talk)
+    × AreCounted (without_records block) others 0 found.replies.items x at
+    × (length found.replies.items ≡ 64)
+    × AreLeftOver asking found.has_unaddressed at y
+
+-- A CHECK beside these records ends by what it found, and has said that
+abbrev pub HasChecked : (Kept → Type 0) → (Said → Type 0) → List Block → Bool → ℕ → Talk → Talk
+    → Result (Unit {0}) Failure → Type 0
+HasChecked beside told others heard line x y ended =
     (found : Result Checked CommissionFault)
-    × (heard : Bool)
-    × (line : ℕ)
+    × IfOk found (λ it. beside it.kept × HasAskedAll others it x y)
     × (ended ≡ check_ended found others heard line)
     × AreTold told (check_said found others)
+
+-- It is one beside no records, or beside those of a name as they were seen, if they can be had.
+abbrev pub no_records : Kept
+no_records = without_records (record { first = 0; last = 63 })
+
+abbrev pub IsCheckOf : {F : Type 0} → (F → Look → Type 0) → F → (Said → Type 0) → List Block
+    → Bool → ℕ → Talk → Talk → Result (Unit {0}) Failure → Option (List ℕ) → Type 0
+IsCheckOf saw stores told others heard line x y result None =
+    HasChecked (λ kept. kept ≡ no_records) told others heard line x y result
+IsCheckOf saw stores told others heard line x y result (Some name) =
+    (IsErr result × (y ≡ x))
+    ⊎ ((done : Result (Unit {0}) Failure)
+    × HasChecked (λ kept. saw stores (Read name kept)) told others heard line x y done
+    × IfOk result (λ out. done ≡ Ok out))

@@ -1,11 +1,12 @@
 //! `check`: it is said which gear answer, beside the records.
 
-ghost use Rattle.std.specs.Prelude.{◌≡◌, Result, Ok, IfOk};
+ghost use Rattle.std.specs.Prelude.{◌≡◌, Result, IfOk, option_map};
 ghost use Rattle.dali_commissioning.specs.declared.beginning.Checked.{Checked};
 ghost use Rattle.dali_commissioning.specs.declared.fault.CommissionFault.{CommissionFault};
 ghost use Rattle.dali_commissioning.specs.Drivers.{talk_of, has_heard, lines_of};
 ghost use Rattle.dali_commissioning.specs.Runs.{IsChecked};
-ghost use Rattle.dali_commission_asked.specs.Came.{check_ended, check_said, check_places, HasChecked};
+ghost use Rattle.dali_commission_asked.specs.Came.{check_ended, check_said, check_places, HasChecked, IsCheckOf};
+ghost use Rattle.dali_commission_asked.specs.Came.{no_records};
 
 use crate::sharing::{is_any_open, is_any_shared, or_open};
 use dali_commission_said::{Came, Failure, Report, Voice, checked, failure_of};
@@ -13,7 +14,6 @@ use dali_commission_stores::{Borrower, Stores, lend_copy};
 use dali_commissioning::{Checked, CommissionFault, DriverLink, check};
 use dali_reserve::{Keep, MemoryKeep};
 use dali_script::Block;
-use std::io;
 use std::io::{Read, Write};
 
 /// What a check comes to that found this, or could not be made, at this line of the driver; and whether any gear was
@@ -70,34 +70,52 @@ struct Checking<'a, S> {
     report: &'a mut Report,
 }
 
-impl<S: Input + Print + Voice + AllocGlobal> Borrower for Checking<'_, S> {
+impl<K: Keep, S: Voice, R: Read, W: Write> Borrower<K, DriverLink<R, W>> for Checking<'_, S> {
     type Out = ();
 
-    ghost use Rattle.std.specs.Prelude.{Ok};
+    ghost use Rattle.dali_commissioning.specs.Drivers.{talk_of, has_heard, lines_of};
+    ghost use Rattle.dali_commissioning.specs.Runs.{IsRead};
     ghost use Rattle.dali_commission_asked.specs.Came.{HasChecked};
 
-    ghost came = { λ checking _ out. HasChecked (S.told checking.system.now) checking.others.now (Ok out) };
+    ghost came = { λ checking from to x y result. HasChecked (IsRead K.is_up K.is_sound K.holds (K.block from) from to)
+        (S.told checking.system.now) checking.others.now (has_heard y) (lines_of y)
+        (talk_of R.remaining W.contents x) (talk_of R.remaining W.contents y) result };
 
-    fn take<K: Keep>(self, store: &mut K) -> Result<(), Failure> {
-        let system = self.system;
-        let mut driver = DriverLink::new(system.alloc(), system.reader(), io::writer(system));
-        let came = checked_over(store, &mut driver, self.others);
-        came.told(system, &driver, self.report)
+    fn take(self, store: &mut K, driver: &mut DriverLink<R, W>) -> Result<(), Failure> {
+        let came = checked_over(store, driver, self.others);
+        came.told(self.system, driver, self.report)
     }
 }
 
+/// The same beside no records.
+fn checks_alone<S: Voice, R: Read, W: Write>(
+    driver: &mut DriverLink<R, W>,
+    checking: Checking<'_, S>,
+) -> Result<(), Failure>
+    ensures { HasChecked (λ kept. kept ≡ no_records) (S.told checking.entry.system.now) checking.entry.others.now
+        (has_heard driver.new) (lines_of driver.new) (talk_of R.remaining W.contents driver.old)
+        (talk_of R.remaining W.contents driver.new) result }
+{
+    checking.take(&mut MemoryKeep::new(Block::ALL), driver)
+}
+
 /// Says which gear answer, beside the records of this name, if there are any.
-pub fn checks<S, F>(
+pub fn checks<S, F, R, W>(
     system: &S,
     stores: &F,
+    driver: &mut DriverLink<R, W>,
     records: Option<&str>,
     others: &[Block],
     report: &mut Report,
 ) -> Result<(), Failure>
 where
-    S: Input + Print + Voice + AllocGlobal,
+    S: Voice + AllocGlobal,
     F: Stores,
-    ensures { IfOk result (λ done. HasChecked (S.told system.now) others.now (Ok done)) }
+    R: Read,
+    W: Write,
+    ensures { IsCheckOf F.saw stores.now (S.told system.now) others.now (has_heard driver.new) (lines_of driver.new)
+        (talk_of R.remaining W.contents driver.old) (talk_of R.remaining W.contents driver.new) result
+        (option_map (λ name. name.now) records.entry) }
 {
     let checking = Checking {
         system,
@@ -105,7 +123,7 @@ where
         report,
     };
     match records {
-        Some(name) => lend_copy(system.alloc(), stores, name, checking),
-        None => checking.take(&mut MemoryKeep::new(Block::ALL)),
+        Some(name) => lend_copy(system.alloc(), stores, name, checking, driver),
+        None => checks_alone(driver, checking),
     }
 }

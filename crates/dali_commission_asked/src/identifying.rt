@@ -1,63 +1,96 @@
 //! `identify`: a gear goes bright and dark.
 
-ghost use Rattle.std.specs.Prelude.{◌≡◌, false, OnOk};
+ghost use Rattle.std.specs.Prelude.{◌≡◌, false, IfOk, OnOk};
 ghost use Rattle.dali_commissioning.specs.declared.census.Reply.{Reply};
 ghost use Rattle.dali_commissioning.specs.Census.{IsAnswered, is_silent};
-ghost use Rattle.dali_commissioning.specs.Drivers.{Talk, talk_of};
-ghost use Rattle.dali_commission_asked.specs.Came.{IsLit, HasShown};
+ghost use Rattle.dali_commissioning.specs.Drivers.{talk_of};
+ghost use Rattle.dali_commission_asked.specs.Came.{IsLit, IsLitBy, IsLitOnce, HasBlinked, HasShown};
 
 use dali_commission_said::{Came, Failure, Report, Voice, failure_of};
 use dali_commissioning::{CommissionFault, DriverLink, Reply, ask, light, light_at_last};
 use dali_frame::Short;
 use std::io::{Read, Write};
+use std::thread;
 use std::time::{Clock, Duration};
-use std::{io, thread};
 
 /// How often a gear goes bright and dark, for how many milliseconds, and how often in a row a frame is tried.
-const BLINKS: u8 = 5;
+const BLINKS: [u8; 5] = [1, 2, 3, 4, 5];
 
 const STAYS: u64 = 1_000;
 
-const TRIES: u8 = 8;
+const TRIES: [u8; 8] = [1, 2, 3, 4, 5, 6, 7, 8];
 
 /// Direct arc power: the most, and off.
 const BRIGHT: u8 = 254;
 
 const DARK: u8 = 0;
 
-/// Sets the light of a gear, as soon as a frame is sent.
+/// Sets the light of a gear, if the frame is sent.
+#[tactic(auto, unfolding(crate::specs::Came::IsLitOnce))]
+fn lit_once<R: Read, W: Write>(
+    driver: &mut DriverLink<R, W>,
+    short: Short,
+    level: u8,
+) -> Result<bool, Failure>
+    ensures { IfOk result (λ sent. IsLitOnce short level sent (talk_of R.remaining W.contents driver.old)
+        (talk_of R.remaining W.contents driver.new)) }
+{
+    match light(driver, short, level) {
+        Ok(is_sent) => Ok(is_sent),
+        Err(fault) => Err(failure_of(CommissionFault::Driver(fault), driver.lines())),
+    }
+}
+
+/// Sets it as soon as a frame is sent.
+fn lit_by<R: Read, W: Write>(
+    driver: &mut DriverLink<R, W>,
+    short: Short,
+    level: u8,
+    tries: &[u8],
+) -> Result<(), Failure>
+    ensures { OnOk result (IsLitBy short level tries.now (talk_of R.remaining W.contents driver.old)
+        (talk_of R.remaining W.contents driver.new)) }
+{
+    let [_, more @ ..] = tries else {
+        return Err(Failure::GaveUp);
+    };
+    if lit_once(driver, short, level)? {
+        return Ok(());
+    }
+    lit_by(driver, short, level, more)
+}
+
+/// The same, by at most eight frames.
+#[tactic(auto, unfolding(crate::specs::Came::IsLit))]
 fn lit<R: Read, W: Write>(
     driver: &mut DriverLink<R, W>,
     short: Short,
     level: u8,
 ) -> Result<(), Failure>
-    ensures { OnOk result ((before : Talk) × IsLit short level before (talk_of R.remaining W.contents driver.new)) }
+    ensures { OnOk result (IsLit short level (talk_of R.remaining W.contents driver.old)
+        (talk_of R.remaining W.contents driver.new)) }
 {
-    for _ in 0..TRIES {
-        match light(driver, short, level) {
-            Ok(true) => return Ok(()),
-            Ok(false) => {}
-            Err(fault) => return Err(failure_of(CommissionFault::Driver(fault), driver.lines())),
-        }
-    }
-    Err(Failure::GaveUp)
+    lit_by(driver, short, level, &TRIES)
 }
 
-/// Makes the gear go bright and dark, and bright in the end.
+/// Makes the gear go bright and dark so often, and bright in the end.
 fn blinks<S: Clock, R: Read, W: Write>(
     system: &S,
     driver: &mut DriverLink<R, W>,
     short: Short,
+    times: &[u8],
 ) -> Result<(), Failure>
-    ensures { OnOk result ((before : Talk) × IsLit short 254 before (talk_of R.remaining W.contents driver.new)) }
+    ensures { OnOk result (HasBlinked short times.now (talk_of R.remaining W.contents driver.old)
+        (talk_of R.remaining W.contents driver.new)) }
 {
-    for _ in 0..BLINKS {
-        lit(driver, short, BRIGHT)?;
-        thread::sleep(system, Duration::from_millis(STAYS));
-        lit(driver, short, DARK)?;
-        thread::sleep(system, Duration::from_millis(STAYS));
-    }
-    lit(driver, short, BRIGHT)
+    lit(driver, short, BRIGHT)?;
+    let [_, more @ ..] = times else {
+        return Ok(());
+    };
+    thread::sleep(system, Duration::from_millis(STAYS));
+    lit(driver, short, DARK)?;
+    thread::sleep(system, Duration::from_millis(STAYS));
+    blinks(system, driver, short, more)
 }
 
 /// Whether no gear answered.
@@ -95,12 +128,11 @@ fn shows<S: Clock, R: Read, W: Write>(
     driver: &mut DriverLink<R, W>,
     short: Short,
 ) -> Result<(), Failure>
-    ensures there { OnOk result ((heard : Reply) × (at : Talk) × IsAnswered short heard
-        (talk_of R.remaining W.contents driver.old) at × (is_silent heard ≡ false)) }
-    ensures lit { OnOk result ((before : Talk) × IsLit short 254 before (talk_of R.remaining W.contents driver.new)) }
+    ensures { OnOk result (HasShown short (talk_of R.remaining W.contents driver.old)
+        (talk_of R.remaining W.contents driver.new)) }
 {
     is_there(driver, short)?;
-    let shown = blinks(system, driver, short);
+    let shown = blinks(system, driver, short, &BLINKS);
     if shown.is_err() {
         let _ = light_at_last(driver, short, BRIGHT);
     }
@@ -108,14 +140,15 @@ fn shows<S: Clock, R: Read, W: Write>(
 }
 
 /// Makes the gear with a short address go bright and dark, and bright in the end.
-pub fn identify<S: Input + Print + Voice + AllocGlobal + Clock>(
+pub fn identify<S: Voice + Clock, R: Read, W: Write>(
     system: &S,
+    driver: &mut DriverLink<R, W>,
     short: Short,
     report: &mut Report,
 ) -> Result<(), Failure>
-    ensures { OnOk result (HasShown short) }
+    ensures { OnOk result (HasShown short (talk_of R.remaining W.contents driver.old)
+        (talk_of R.remaining W.contents driver.new)) }
 {
-    let mut driver = DriverLink::new(system.alloc(), system.reader(), io::writer(system));
-    let ended = shows(system, &mut driver, short);
-    Came::bare(ended).told(system, &driver, report)
+    let ended = shows(system, driver, short);
+    Came::bare(ended).told(system, driver, report)
 }

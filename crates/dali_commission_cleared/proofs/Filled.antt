@@ -1,4 +1,4 @@
-use Rattle.std.proofs.Common.{◌≡◌, ◌≤◌, ◌-◌, arith, ℕ, Bool, true, false, List, [], ◌∷◌, ◌++◌, length, take, drop, subst, sym, ap, ◌∙◌, inl, inr}
+use Rattle.std.proofs.Common.{◌≡◌, ◌≤◌, ◌-◌, arith, ℕ, Bool, false, List, [], ◌∷◌, ◌++◌, length, take, drop, subst, sym, ap, ◌∙◌, inl, inr}
 use Rattle.std.proofs.{Common.Result, Common.Ok, Common.Err, Common.OnOk, Math.ListN.get_or, lemmas.List.take_all}
 use Rattle.std.specs.Prelude.{if◌then◌else◌, ◌↔◌, IsTrue, string_bytes}
 use Rattle.std.specs.declared.alloc.Global.{Global}

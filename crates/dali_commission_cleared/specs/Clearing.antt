@@ -1,5 +1,5 @@
 use Rattle.std.specs.Prelude.{◌≡◌, ◌⊎◌, ℕ, Bool, true, false, if◌then◌else◌, List, [], ◌∷◌, Result}
-use Rattle.std.specs.Prelude.{Ok, Err, None, not, ◌++◌, ◌↔◌, IsTrue, string_bytes}
+use Rattle.std.specs.Prelude.{Ok, Err, IsErr, None, not, ◌++◌, ◌↔◌, IsTrue, string_bytes}
 use Rattle.std.specs.List.{list_any}
 use Rattle.std.specs.declared.alloc.Global.{Global}
 use Rattle.std.specs.declared.string.String.{String}
@@ -62,11 +62,11 @@ AreFilled saw x before (name ∷ more) after =
 -- and it is said where they are kept
 abbrev pub ArePutAside : {F : Type 0} → (F → F → Call → Type 0) → (F → Look → Type 0)
     → (Said → Type 0) → List (String Global) → F → F → Type 0
-ArePutAside {F = F} made saw told records x y =
+ArePutAside made saw told records x y =
     (names : List (String Global))
     × (number : ℕ)
     × AreFilled saw x [] records names
-    × ((from : F) × AreRenamed made saw names number from y)
+    × AreRenamed made saw names number x y
     × AreKeptTold told number names
 
 -- and so are the new files that a stopped replacement has left beside any of them
@@ -139,14 +139,21 @@ ClearsTo ended lines stand x y =
     × (stand ≡ places (without_records all_shorts) [] replies)
     × (lines ≡ places_said which.All 0 stand ++ cleared_said ended)
 
--- A CLEAR THAT ENDED SO has put the files aside before, and said which gear still answer
-abbrev pub HasCleared : {F : Type 0} → (F → F → Call → Type 0) → (F → Look → Type 0)
-    → (Said → Type 0) → List (String Global) → Result (Unit {0}) Failure → Type 0
-HasCleared {F = F} made saw told records ended =
-    ((from to : F) × ArePutAside made saw told records from to)
-    × ((from to : F) × AreNewAside made saw records from to)
-    × ((lines : List Said)
+-- A CLEAR first puts the files aside: nothing is put if that fails. Then it says which gear still
+-- answer, and ends so; or the bus fails.
+abbrev pub IsClearedSo : (Said → Type 0) → Talk → Talk → Result (Unit {0}) Failure → Type 0
+IsClearedSo told x y ended =
+    (lines : List Said)
     × (stand : List Place)
-    × (x y : Talk)
     × ClearsTo ended lines stand x y
-    × AreTold told lines)
+    × AreTold told lines
+
+abbrev pub HasCleared : {F : Type 0} → (F → F → Call → Type 0) → (F → Look → Type 0)
+    → (Said → Type 0) → List (String Global) → F → F → Talk → Talk → Result (Unit {0}) Failure
+    → Type 0
+HasCleared {F = F} made saw told records was now x y ended =
+    (IsErr ended × (y ≡ x))
+    ⊎ ((mid : F)
+    × ArePutAside made saw told records was mid
+    × AreNewAside made saw records mid now
+    × (IsErr ended ⊎ IsClearedSo told x y ended))

@@ -42,15 +42,15 @@ struct Setting<'a, S> {
     names: &'a [String],
 }
 
-impl<'a, S: Voice + AllocGlobal, F: Stores> Holder<F> for Setting<'a, S> {
+impl<'a, S: Voice + AllocGlobal, F: Stores, D> Holder<F, D> for Setting<'a, S> {
     type Due = &'a [String];
 
     type Out = u32;
 
-    ghost use Rattle.std.specs.Prelude.{◌≡◌};
+    ghost use Rattle.std.specs.Prelude.{◌≡◌, IfOk};
     ghost use Rattle.dali_commission_cleared.specs.Clearing.{AreRenamed};
 
-    ghost dues = { λ setting _ due. due.now ≡ setting.names.now };
+    ghost dues = { λ setting _ from to _ _ result. (to ≡ from) × IfOk result (λ due. due.now ≡ setting.names.now) };
 
     ghost ends = { λ _ from to due number. AreRenamed F.made F.saw due.now number from to };
 
@@ -58,7 +58,12 @@ impl<'a, S: Voice + AllocGlobal, F: Stores> Holder<F> for Setting<'a, S> {
         say_refused(self.system, name, failure)
     }
 
-    fn take(&mut self, _stores: &mut F, _all: &[Kept]) -> Result<&'a [String], Failure> {
+    fn take(
+        &mut self,
+        _stores: &mut F,
+        _all: &[Kept],
+        _beside: &mut D,
+    ) -> Result<&'a [String], Failure> {
         Ok(self.names)
     }
 
@@ -129,7 +134,7 @@ pub(crate) fn put_aside<S: Voice + AllocGlobal, F: Stores>(
         system,
         names: &names,
     };
-    let number = stores.hold(system.alloc(), &names, setting)?;
+    let number = stores.hold(system.alloc(), &names, setting, &mut ())?;
     say_kept(system, &names, number)?;
     Ok(Aside { _ended: () })
 }

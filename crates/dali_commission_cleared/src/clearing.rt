@@ -1,6 +1,6 @@
 //! `clear`: all gear lose their short addresses.
 
-ghost use Rattle.std.specs.Prelude.{◌≡◌, ◌≤◌, ◌++◌, [], None, Ok, IfOk, OnOk, length, not};
+ghost use Rattle.std.specs.Prelude.{◌≡◌, ◌≤◌, ◌++◌, [], None, IfOk, OnOk, length, not};
 ghost use Rattle.std.specs.List.{list_any};
 ghost use Rattle.dali_script.specs.Records.{without_records};
 ghost use Rattle.dali_commissioning.specs.Census.{is_silent};
@@ -23,7 +23,6 @@ use dali_commissioning::{
     CommissionFault, DriverLink, Reply, has_unaddressed, places, take_census,
 };
 use dali_script::{Block, Kept};
-use std::io;
 use std::io::{Read, Write};
 
 /// How many frames a round may put: some 8,000 take 64 gear their short addresses.
@@ -177,25 +176,28 @@ fn came_to<S: Voice, R: Read, W: Write>(
 
 /// Puts the files of these records aside that are not empty, and what a stopped replacement has left beside them; and
 /// takes the short addresses of all gear away.
-pub fn clears<S, F>(
+pub fn clears<S, F, R, W>(
     system: &S,
     stores: &mut F,
+    driver: &mut DriverLink<R, W>,
     manner: Manner,
     records: &[String],
     report: &mut Report,
 ) -> Result<(), Failure>
 where
-    S: Input + Print + Voice + AllocGlobal,
+    S: Voice + AllocGlobal,
     F: Stores,
-    ensures { IfOk result (λ done. HasCleared F.made F.saw (S.told system.now) records.now (Ok done)) }
+    R: Read,
+    W: Write,
+    ensures { HasCleared F.made F.saw (S.told system.now) records.now stores.old stores.new
+        (talk_of R.remaining W.contents driver.old) (talk_of R.remaining W.contents driver.new) result }
 {
     let aside = put_aside(system, stores, records)?;
     put_new_aside(system, stores, records)?;
-    let mut driver = DriverLink::new(system.alloc(), system.reader(), io::writer(system));
     let progress = Progress::new(system, manner, 0);
-    let came = match came_to(&mut driver, &progress, &aside) {
+    let came = match came_to(driver, &progress, &aside) {
         Ok(came) => came,
         Err(fault) => Came::bare(Err(failure_of(fault, driver.lines()))),
     };
-    came.told(system, &driver, report)
+    came.told(system, driver, report)
 }

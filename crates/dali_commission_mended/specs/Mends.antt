@@ -5,10 +5,11 @@ use Rattle.dali_script.specs.declared.orders.End.TheVariants.{AllFound}
 use Rattle.dali_script.specs.declared.orders.Input.{Input}
 use Rattle.dali_script.specs.declared.orders.Input.TheVariants.{Survey}
 use Rattle.dali_script.specs.declared.records.Record.{Record}
-use Rattle.dali_script.specs.Records.{Kept, Assignment}
+use Rattle.dali_script.specs.Records.{Kept, Assignment, without_records}
 use Rattle.dali_commissioning.specs.declared.census.Reply.{Reply}
 use Rattle.dali_commissioning.specs.declared.conducting.Ended.TheVariants.{Done}
 use Rattle.dali_commissioning.specs.declared.conducting.PassEnd.{PassEnd}
+use Rattle.dali_commissioning.specs.Census.{AreCounted}
 use Rattle.dali_commissioning.specs.Drivers.{Talk}
 use Rattle.dali_commissioning.specs.Runs.{Run, AreRuns, EndWith, ComeTo, AreQuiet}
 use Rattle.dali_replacement.specs.Tables.{Keeps, Reserves}
@@ -126,3 +127,15 @@ MendsTo is_up is_sound holds kept_of block table records others wanted replies m
     [] hanging x at
     × MendsBeside is_up is_sound holds kept_of block table others wanted hanging replies ms was keep
     at y ended
+
+-- each short address is asked first, but those in the blocks of others
+abbrev pub MendsFrom : {S : Type 0} (is_up is_sound : S → Type 0)
+    (holds : S → List Record → Type 0) (kept_of : S → Kept) → Block → Kept → Kept → List Block
+    → Mend → List Mending → S → S → Talk → Talk → Result (Unit {0}) Failure → Type 0
+MendsFrom is_up is_sound holds kept_of block table records others wanted ms was keep x y ended =
+    (replies : List Reply)
+    × (at : Talk)
+    × AreCounted (without_records table.block) others 0 replies x at
+    × MendsTo is_up is_sound holds kept_of block table records others wanted replies ms was keep at
+    y
+    ended

@@ -1,19 +1,16 @@
 //! `mend`: gear that share a short address are told apart; then surveys enrol who has kept one, and serve who lost it.
 
-ghost use Rattle.std.specs.Prelude.{◌≡◌, ◌≤◌, [], None, Err, List, IfOk, OnOk, length};
+ghost use Rattle.std.specs.Prelude.{◌≡◌, ◌≤◌, [], None, Ok, Err, IfOk, OnOk, length};
 ghost use Rattle.dali_commission_asked.specs.Ending.{none_left};
-ghost use Rattle.dali_script.specs.Records.{without_records};
 ghost use Rattle.dali_mending.specs.Mending.{put_next};
-ghost use Rattle.dali_commissioning.specs.declared.census.Reply.{Reply};
-ghost use Rattle.dali_commissioning.specs.Census.{AreCounted};
-ghost use Rattle.dali_commissioning.specs.Drivers.{Talk, talk_of};
+ghost use Rattle.dali_commissioning.specs.Drivers.{talk_of};
 ghost use Rattle.dali_commissioning.specs.Places.{places};
 ghost use Rattle.dali_commission_mended.specs.Mends.{HasPut, IsMended, AreMended, HasSurveyed, MendedSo, Follows};
-ghost use Rattle.dali_commission_mended.specs.Mends.{HasMendedSo, MendsBeside, MendsTo, mended_as};
+ghost use Rattle.dali_commission_mended.specs.Mends.{HasMendedSo, MendsBeside, MendsTo, MendsFrom, mended_as};
 ghost use Rattle.dali_commission_mended.specs.Hanging.{AreLookedFor};
 ghost use Rattle.dali_commission_asked.specs.Sharing.{with_left, why_open, is_any_left_shared, meant_from};
 ghost use Rattle.dali_commission_said.specs.Reports.{heard_of};
-ghost use Rattle.dali_commission_mended.specs.Tellings.{AreMendsTold, HasMended};
+ghost use Rattle.dali_commission_mended.specs.Tellings.{AreMendsTold, HasMended, IsMendBeside, IsMendOf};
 
 use crate::hanging::{Hanging, look_for_all};
 use crate::running::left_of;
@@ -26,7 +23,7 @@ use dali_commission_said::{
     Aim, Came, Failure, Manner, MendRefusal, Progress, REFUSED, Report, Said, Voice, Which, add,
     ended_as, failure_of, heard_of, or_say, own_rows, push_places, say,
 };
-use dali_commission_stores::{Borrower, Stores, kept, lend, read};
+use dali_commission_stores::{Borrower, Stores, kept, lend, read_all};
 use dali_commission_tasks::{Asked, Mend};
 use dali_commissioning::{
     CommissionFault, DriverLink, PassEnd, Reply, Watch, commission, places, take_census,
@@ -37,7 +34,6 @@ use dali_mending::Mending;
 use dali_replacement::{gathered_whole, refill};
 use dali_reserve::Keep;
 use dali_script::{Block, Input as Told, Kept, Pair};
-use std::io;
 use std::io::{Read, Write};
 
 /// How many frames the mending of a short address may put: more than it puts before it gives up.
@@ -337,12 +333,9 @@ fn came_to<S: Voice, K: Keep, R: Read, W: Write>(
     mended: &mut Vec<Mending>,
 ) -> Result<Came, Failure>
     requires { mended.old.items ≡ [] }
-    ensures { IfOk result (λ came. (replies : List Reply) × (at : Talk)
-        × AreCounted (without_records site.now.table.now.block) site.now.others.now 0 replies
-        (talk_of R.remaining W.contents driver.old) at
-        × MendsTo K.is_up K.is_sound K.holds K.kept (K.block store.old) site.now.table.now
-        site.now.before.now site.now.others.now site.now.wanted.now replies mended.new.items store.old store.new
-        at (talk_of R.remaining W.contents driver.new) came.ended) }
+    ensures { IfOk result (λ came. MendsFrom K.is_up K.is_sound K.holds K.kept (K.block store.old) site.now.table.now
+        site.now.before.now site.now.others.now site.now.wanted.now mended.new.items store.old store.new
+        (talk_of R.remaining W.contents driver.old) (talk_of R.remaining W.contents driver.new) came.ended) }
 {
     progress.begin(&Said::AsksAll);
     match take_census(driver, &Kept::new(site.table.block()), site.others) {
@@ -354,6 +347,25 @@ fn came_to<S: Voice, K: Keep, R: Read, W: Write>(
             }
         }
         Err(fault) => Err(failure_of(fault, driver.lines())),
+    }
+}
+
+/// What it comes to, also if it cannot be made.
+fn came_to_or_not<S: Voice, K: Keep, R: Read, W: Write>(
+    store: &mut K,
+    driver: &mut DriverLink<R, W>,
+    progress: &mut Progress<'_, S>,
+    site: &Site<'_>,
+    mended: &mut Vec<Mending>,
+) -> Came
+    requires { mended.old.items ≡ [] }
+    ensures { OnOk result.ended (MendsFrom K.is_up K.is_sound K.holds K.kept (K.block store.old) site.now.table.now
+        site.now.before.now site.now.others.now site.now.wanted.now mended.new.items store.old store.new
+        (talk_of R.remaining W.contents driver.old) (talk_of R.remaining W.contents driver.new) (Ok tt)) }
+{
+    match came_to(store, driver, progress, site, mended) {
+        Ok(came) => came,
+        Err(failure) => Came::bare(Err(failure)),
     }
 }
 
@@ -387,14 +399,17 @@ pub(crate) struct Mender<'a, S> {
     pub report: &'a mut Report,
 }
 
-impl<S: Input + Print + Voice + AllocGlobal> Mender<'_, S> {
+impl<S: Voice + AllocGlobal> Mender<'_, S> {
     /// Mends them over a driver, with the records of the first file.
     pub fn over<K: Keep, R: Read, W: Write>(
         self,
         store: &mut K,
         driver: &mut DriverLink<R, W>,
     ) -> Result<(), Failure>
-        ensures { OnOk result (HasMended (S.told self.entry.system.now) self.entry.others.now self.entry.wanted.now) }
+        ensures { OnOk result (HasMended K.is_up K.is_sound K.holds K.kept (K.block store.old)
+            (S.told self.entry.system.now) self.entry.others.now self.entry.wanted.now self.entry.tables.items
+            store.old store.new
+            (talk_of R.remaining W.contents driver.old) (talk_of R.remaining W.contents driver.new)) }
     {
         let (system, mut tables) = (self.system, self.tables);
         let before = kept(store)?;
@@ -411,50 +426,53 @@ impl<S: Input + Print + Voice + AllocGlobal> Mender<'_, S> {
         };
         let mut progress = Progress::new(system, self.manner, left_of(&before));
         let mut mended = Vec::new(system.alloc());
-        let came = match came_to(store, driver, &mut progress, &site, &mut mended) {
-            Ok(came) => came,
-            Err(failure) => Came::bare(Err(failure)),
-        };
+        let came = came_to_or_not(store, driver, &mut progress, &site, &mut mended);
         say_mended(system, &mended, &kept(store)?);
         came.told(system, driver, self.report)
     }
 }
 
-impl<S: Input + Print + Voice + AllocGlobal> Borrower for Mender<'_, S> {
+impl<K: Keep, S: Voice + AllocGlobal, R: Read, W: Write> Borrower<K, DriverLink<R, W>>
+    for Mender<'_, S> {
     type Out = ();
 
+    ghost use Rattle.std.specs.Prelude.{OnOk};
+    ghost use Rattle.dali_commissioning.specs.Drivers.{talk_of};
     ghost use Rattle.dali_commission_mended.specs.Tellings.{HasMended};
 
-    ghost came = { λ mender _ _. HasMended (S.told mender.system.now) mender.others.now mender.wanted.now };
+    ghost came = { λ mender from to x y result. OnOk result (HasMended K.is_up K.is_sound K.holds K.kept (K.block from)
+        (S.told mender.system.now) mender.others.now mender.wanted.now mender.tables.items from to
+        (talk_of R.remaining W.contents x) (talk_of R.remaining W.contents y)) };
 
-    fn take<K: Keep>(self, store: &mut K) -> Result<(), Failure> {
-        let system = self.system;
-        let mut driver = DriverLink::new(system.alloc(), system.reader(), io::writer(system));
-        self.over(store, &mut driver)
+    fn take(self, store: &mut K, driver: &mut DriverLink<R, W>) -> Result<(), Failure> {
+        self.over(store, driver)
     }
 }
 
-/// Mends short addresses, with the gear of these files, of which the first one is that of the controller.
-pub fn mends<S, F>(
+/// Mends short addresses over the records of a name, with the gear of other files, too.
+#[tactic(auto, unfolding(crate::specs::Tellings::IsMendBeside))]
+fn mends_beside_others<S, F, R, W>(
     system: &S,
     stores: &mut F,
+    driver: &mut DriverLink<R, W>,
     manner: Manner,
-    asked: &Asked,
+    name: &str,
+    more: &[String],
+    others: &[Block],
     wanted: &Mend,
     report: &mut Report,
 ) -> Result<(), Failure>
 where
-    S: Input + Print + Voice + AllocGlobal,
+    S: Voice + AllocGlobal,
     F: Stores,
-    ensures { OnOk result (HasMended (S.told system.now) asked.now.others.items wanted.now) }
+    R: Read,
+    W: Write,
+    ensures { IsMendBeside F.Open.is_up F.Open.is_sound F.Open.holds F.Open.kept F.Open.block F.saw F.opens R.remaining
+        W.contents (S.told system.now) others.now wanted.now stores.old name.now more.now
+        driver.old driver.new result }
 {
-    let [name, more @ ..] = asked.records.as_slice() else {
-        return Err(REFUSED);
-    };
     let mut tables = Vec::new(system.alloc());
-    for other in more {
-        add(&mut tables, read(system, stores, other)?)?;
-    }
+    read_all(system, stores, more, &mut tables)?;
     if let Some(short) = reserved_in(&wanted.block, &tables) {
         return Err(Failure::NotMended(short, MendRefusal::ReservedByOthers));
     }
@@ -462,10 +480,38 @@ where
         system,
         manner,
         wanted,
-        others: &asked.others,
+        others,
         tables,
         report,
     };
-    let done = lend(system.alloc(), stores, name, wanted.block, mender);
+    let done = lend(system.alloc(), stores, name, wanted.block, mender, driver);
     or_say(system, name, done)
+}
+
+/// Mends short addresses, with the gear of these files, of which the first one is that of the controller.
+pub fn mends<S, F, R, W>(
+    system: &S,
+    stores: &mut F,
+    driver: &mut DriverLink<R, W>,
+    manner: Manner,
+    asked: &Asked,
+    wanted: &Mend,
+    report: &mut Report,
+) -> Result<(), Failure>
+where
+    S: Voice + AllocGlobal,
+    F: Stores,
+    R: Read,
+    W: Write,
+    ensures { IsMendOf F.Open.is_up F.Open.is_sound F.Open.holds F.Open.kept F.Open.block F.saw F.opens R.remaining
+        W.contents (S.told system.now) asked.now.others.items wanted.now stores.old driver.old driver.new result
+        asked.now.records.items }
+{
+    let [name, more @ ..] = asked.records.as_slice() else {
+        return Err(REFUSED);
+    };
+    let others = asked.others.as_slice();
+    mends_beside_others(
+        system, stores, driver, manner, name, more, others, wanted, report,
+    )
 }

@@ -1,6 +1,6 @@
 //! `run`: gear are given short addresses.
 
-ghost use Rattle.std.specs.Prelude.{◌≡◌, ◌↔◌, ◌+◌, ◌-◌, Err, IfOk, IsTrue, OnOk, length};
+ghost use Rattle.std.specs.Prelude.{◌≡◌, ◌↔◌, ◌+◌, ◌-◌, [], Err, IfOk, IsTrue, OnOk, length};
 ghost use Rattle.dali_commissioning.specs.Drivers.{talk_of};
 ghost use Rattle.dali_commission_said.specs.declared.failure.Failure.TheVariants.{Shared};
 ghost use Rattle.dali_commission_said.specs.Failures.{ended_as};
@@ -20,7 +20,6 @@ use dali_commission_tasks::{Mend, Setup, Start};
 use dali_commissioning::{Begun, CommissionFault, DriverLink, PassEnd, Watch, begin, commission};
 use dali_reserve::Keep;
 use dali_script::{Block, Input as Told, Kept};
-use std::io;
 use std::io::{Read, Write};
 
 /// How many short addresses of its block are not reserved.
@@ -45,9 +44,10 @@ fn begun<K: Keep, R: Read, W: Write, P: Watch>(
     setup: &Setup,
     others: &[Block],
 ) -> Result<Begun, CommissionFault>
-    ensures { IfOk result (HasBegun K.is_up K.is_sound K.holds (K.block store.old) others.now
+    ensures begun { IfOk result (HasBegun K.is_up K.is_sound K.holds (K.block store.old) others.now
         setup.now.idle_passes store.old store.new
         (talk_of R.remaining W.contents driver.old) (talk_of R.remaining W.contents driver.new) setup.now.start) }
+    ensures block { K.block store.new ≡ K.block store.old }
 {
     match setup.start {
         Start::Fresh => begin(store, driver, watch, others, setup.idle_passes),
@@ -87,8 +87,10 @@ fn ended_so<K: Keep, R: Read, W: Write>(
     before: &Kept,
     aim: Aim,
 ) -> Result<Came, Failure>
-    ensures { IfOk result (λ came. EndsSo pass.now (K.kept store.new) came.ended
-        (talk_of R.remaining W.contents driver.old) (talk_of R.remaining W.contents driver.new)) }
+    ensures block { K.block store.new ≡ K.block store.old }
+    ensures ends { IfOk result (λ came. EndsSo K.is_up K.is_sound K.holds (K.block store.old) pass.now before.now aim
+        store.old store.new (talk_of R.remaining W.contents driver.old) (talk_of R.remaining W.contents driver.new)
+        came.report.said.items came.ended) }
 {
     let after = kept(store)?;
     let asked = ask_at_last(driver, pass, &after);
@@ -108,8 +110,11 @@ fn came_to<K: Keep, R: Read, W: Write>(
     others: &[Block],
     begun: Result<Begun, CommissionFault>,
 ) -> Came
-    ensures { ComesTo before.now others.now begun (K.kept store.new) (talk_of R.remaining W.contents driver.old)
-        (talk_of R.remaining W.contents driver.new) result.report.said.items result.ended }
+    ensures block { K.block store.new ≡ K.block store.old }
+    ensures comes { ComesTo K.is_up K.is_sound K.holds (K.block store.old) before.now others.now begun store.old
+        store.new
+        (talk_of R.remaining W.contents driver.old) (talk_of R.remaining W.contents driver.new)
+        result.report.said.items result.ended }
 {
     match begun {
         Ok(Begun::Addressed(replies)) => Came {
@@ -144,7 +149,7 @@ pub struct Running<'a, S> {
     pub report: &'a mut Report,
 }
 
-impl<S: Input + Print + Voice + AllocGlobal> Running<'_, S> {
+impl<S: Voice + AllocGlobal> Running<'_, S> {
     /// Runs, says what that came to, and hands on how it ended.
     fn runs<K: Keep, R: Read, W: Write>(
         &mut self,
@@ -152,8 +157,11 @@ impl<S: Input + Print + Voice + AllocGlobal> Running<'_, S> {
         driver: &mut DriverLink<R, W>,
         before: &Kept,
     ) -> Result<(), Failure>
-        ensures told { HasRun (S.told self.old.system.now) self.old.others.now result }
+        ensures ran { HasRun K.is_up K.is_sound K.holds (K.block store.old) (S.told self.old.system.now)
+            self.old.others.now self.old.setup.now before.now store.old store.new
+            (talk_of R.remaining W.contents driver.old) (talk_of R.remaining W.contents driver.new) result }
         ensures same { self.new ≡ record self.old { report = self.new.report } }
+        ensures block { K.block store.new ≡ K.block store.old }
     {
         let (system, others) = (self.system, self.others);
         let mut progress = Progress::new(system, self.manner, left_of(before));
@@ -171,8 +179,9 @@ impl<S: Input + Print + Voice + AllocGlobal> Running<'_, S> {
         store: &mut K,
         driver: &mut DriverLink<R, W>,
     ) -> Result<(), Failure>
-        ensures { OnOk result (HasMendedAll (S.told self.entry.system.now) self.entry.others.now
-            self.entry.setup.now.block) }
+        ensures { OnOk result (HasMendedAll K.is_up K.is_sound K.holds K.kept (K.block store.old)
+            (S.told self.entry.system.now) self.entry.others.now self.entry.setup.now.block store.old store.new
+            (talk_of R.remaining W.contents driver.old) (talk_of R.remaining W.contents driver.new)) }
     {
         let alloc = self.system.alloc();
         let wanted = Mend {
@@ -195,20 +204,22 @@ impl<S: Input + Print + Voice + AllocGlobal> Running<'_, S> {
     }
 }
 
-impl<S: Input + Print + Voice + AllocGlobal> Borrower for Running<'_, S> {
+impl<K: Keep, S: Voice + AllocGlobal, R: Read, W: Write> Borrower<K, DriverLink<R, W>>
+    for Running<'_, S> {
     type Out = ();
 
-    ghost use Rattle.dali_commission_mended.specs.Tellings.{HasRunWell};
+    ghost use Rattle.dali_commissioning.specs.Drivers.{talk_of};
+    ghost use Rattle.dali_commission_mended.specs.Tellings.{HasRunOver};
 
-    ghost came = { λ running _ _. HasRunWell (S.told running.system.now) running.others.now running.setup.now };
+    ghost came = { λ running from to x y result. HasRunOver K.is_up K.is_sound K.holds K.kept (K.block from)
+        (S.told running.system.now) running.others.now running.setup.now from to
+        (talk_of R.remaining W.contents x) (talk_of R.remaining W.contents y) result };
 
-    fn take<K: Keep>(mut self, store: &mut K) -> Result<(), Failure> {
-        let (system, mends) = (self.system, self.setup.mends);
+    fn take(mut self, store: &mut K, driver: &mut DriverLink<R, W>) -> Result<(), Failure> {
         let before = kept(store)?;
-        let mut driver = DriverLink::new(system.alloc(), system.reader(), io::writer(system));
-        let ended = self.runs(store, &mut driver, &before);
-        if mends && has_shared(&ended) {
-            self.mends(store, &mut driver)
+        let ended = self.runs(store, driver, &before);
+        if self.setup.mends && has_shared(&ended) {
+            self.mends(store, driver)
         } else {
             ended
         }

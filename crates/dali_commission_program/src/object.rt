@@ -1,6 +1,7 @@
 //! What a task came to, as one object of JSON on a line.
 
-ghost use Rattle.std.specs.Prelude.{◌≡◌, ◌∷◌, ◌++◌, ◌+◌, ◌≤◌, [], OnOk, flat_map, length, option_map};
+ghost use Rattle.std.specs.Prelude.{◌≡◌, ◌∷◌, ◌++◌, ◌+◌, ◌≤◌, [], IfOk, OnOk, flat_map, length, option_map};
+ghost use Rattle.std.specs.Prelude.{string_bytes};
 ghost use Rattle.json.specs.Lex.{tokens};
 ghost use Rattle.json.specs.Print.{print};
 ghost use Rattle.json.specs.Token.{begin_object, end_object};
@@ -9,7 +10,7 @@ ghost use Rattle.dali_commission_program.specs.Object.{gear_tokens, number_token
 ghost use Rattle.dali_commission_program.specs.Object.{strangers_tokens, head_tokens, list_tokens, report_tokens};
 ghost use Rattle.dali_commission_program.specs.Object.{report_text};
 
-use dali_commission_said::{Failure, Report, Row, Voice};
+use dali_commission_said::{Report, Row};
 use dali_commissioning::Place;
 use dali_frame::Random24;
 use json::Writer;
@@ -221,19 +222,17 @@ fn put_report(
     out.end_object()
 }
 
-/// Writes what a task came to: how it ended and its exit status, and how many frames were put and how many gear
-/// enrolled. It also writes the gear in the table, and the short addresses that need to be looked at.
-pub(crate) fn write_report<S: Voice + AllocGlobal>(
-    system: &S,
+/// What a task came to, on a line.
+pub(crate) fn report_line(
+    alloc: Global,
     report: &Report,
     end: &str,
     status: u8,
-) -> Result<(), Failure>
-    ensures written { OnOk result (S.wrote system.now (report_text end.now status report.now)) }
+) -> Result<String, AllocError>
+    ensures line { IfOk result (λ text. string_bytes text ≡ report_text end.now status report.now) }
     ensures reads_back { OnOk result (let object = report_tokens end.now status report.now in
         tokens (print object) ≡ object) }
 {
-    let alloc = system.alloc();
     let mut out = Writer::new(Vec::new(alloc));
     put_report(alloc, &mut out, report, end, status)?;
     let Ok(mut text) = String::from_utf8(out.into_inner()) else {
@@ -241,5 +240,5 @@ pub(crate) fn write_report<S: Voice + AllocGlobal>(
         unreachable!();
     };
     text.push_str("\n")?;
-    system.write(&text)
+    Ok(text)
 }

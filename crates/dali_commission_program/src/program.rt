@@ -1,56 +1,64 @@
 //! The program: what it reads of the system, does, and says.
 
 ghost use Rattle.std.specs.Borrow.{Bor};
-ghost use Rattle.std.specs.Prelude.{◌≡◌, ℕ, List, Option, true, IfOk, OnOk, option_map, slice_get, string_bytes};
+ghost use Rattle.std.specs.Prelude.{◌≡◌, ℕ, List, Option, true, IfOk, OnOk, MatchOption, option_map, slice_get};
+ghost use Rattle.std.specs.Prelude.{string_bytes};
 ghost use Rattle.dali_console.specs.Status.{status_after};
 ghost use Rattle.dali_commission_said.specs.Failures.{status_of, end_name, or_refused, refused_name};
 ghost use Rattle.dali_commission_program.specs.Object.{report_text};
 ghost use Rattle.dali_commission_said.specs.Tables.{only};
 ghost use Rattle.dali_commission_program.specs.Done.{WhyTold, HasTabled, HasDone, HasAnswered, HasServed};
-ghost use Rattle.dali_commission_words.specs.Words.{IsAsked};
+ghost use Rattle.dali_commission_words.specs.Words.{Values, IsAsked};
 
-use crate::object::write_report;
+use crate::writing::{Text, Writes};
 use dali_commission_asked::{checks, identify};
 use dali_commission_cleared::clears;
 use dali_commission_mended::{Running, mends};
 use dali_commission_replaced::{note_first, replaces};
-use dali_commission_said::{Failure, Manner, Report, Voice, push_table, say, why_said};
+use dali_commission_said::{Failure, Manner, Report, Voice, say, why_said};
 use dali_commission_stores::{Reading, Stores, lend, lend_copy};
 use dali_commission_tasks::{Asked, TableForm, Task};
 use dali_commission_words::{PROGRAM, asked_of};
+use dali_commissioning::DriverLink;
+use dali_console::ConsoleFault;
 use dali_words::{CommandLine, LineFault, Shows, asked};
 use std::alloc::Global;
 use std::env::Env;
+use std::io::{Eprint, Read, Write};
 use std::time::Clock;
 
 /// Writes the table of the gear that are enrolled, by the records of a name.
-fn writes_table<S: Voice + AllocGlobal, F: Stores>(
+fn writes_table<S: Writes + AllocGlobal, F: Stores>(
     system: &S,
     stores: &F,
     name: &str,
     form: TableForm,
 ) -> Result<(), Failure>
-    ensures { OnOk result (HasTabled F.saw (S.wrote system.now) name.now form) }
+    ensures { OnOk result (HasTabled F.saw (S.wrote system.now) stores.now name.now form) }
 {
-    let kept = lend_copy(system.alloc(), stores, name, Reading)?;
-    let mut text = String::new(system.alloc());
-    push_table(&mut text, form, &kept)?;
-    system.write(&text)
+    let kept = lend_copy(system.alloc(), stores, name, Reading, &mut ())?;
+    system.write(&Text::of_table(system.alloc(), form, &kept)?)
 }
 
 /// Does what the words of the command line ask for, and notes what it came to.
-fn does<S, F>(
+fn does<S, F, R, W>(
     system: &S,
     stores: &mut F,
+    driver: &mut DriverLink<R, W>,
     manner: Manner,
     asked: &Asked,
     report: &mut Report,
 ) -> Result<(), Failure>
 where
-    S: Input + Print + Voice + AllocGlobal + Clock,
+    S: Voice + Writes + AllocGlobal + Clock,
     F: Stores,
-    ensures { OnOk result (HasDone F.made F.saw (S.told system.now) (S.wrote system.now) asked.now.records.items
-        asked.now.others.items asked.now.task) }
+    R: Read,
+    W: Write,
+    ensures { HasDone F.Open.is_up F.Open.is_sound F.Open.holds F.Open.kept F.Open.block F.made F.saw F.opens
+        R.remaining
+        W.contents (S.told system.now) (S.wrote system.now) asked.now.records.items asked.now.others.items stores.old
+        stores.new
+        driver.old driver.new result asked.now.task }
 {
     let (alloc, others) = (system.alloc(), asked.others.as_slice());
     let name = first(&asked.records);
@@ -63,18 +71,33 @@ where
                 manner,
                 report,
             };
-            lend(alloc, stores, only(&asked.records), setup.block, running)
+            lend(
+                alloc,
+                stores,
+                only(&asked.records),
+                setup.block,
+                running,
+                driver,
+            )
         }
-        Task::Check => checks(system, stores, name, others, report),
-        Task::Identify(short) => identify(system, *short, report),
+        Task::Check => checks(system, stores, driver, name, others, report),
+        Task::Identify(short) => identify(system, driver, *short, report),
         Task::Table(form) => writes_table(system, stores, only(&asked.records), *form),
         Task::Replace(wanted) => {
-            let _heard = replaces(system, stores, manner, &asked.records, wanted, report)?;
+            let _heard = replaces(
+                system,
+                stores,
+                driver,
+                manner,
+                &asked.records,
+                wanted,
+                report,
+            )?;
             note_first(alloc, stores, name, report);
             Ok(())
         }
-        Task::Mend(wanted) => mends(system, stores, manner, asked, wanted, report),
-        Task::Clear => clears(system, stores, manner, &asked.records, report),
+        Task::Mend(wanted) => mends(system, stores, driver, manner, asked, wanted, report),
+        Task::Clear => clears(system, stores, driver, manner, &asked.records, report),
     }
 }
 
@@ -126,7 +149,7 @@ fn end(task: &Task, ended: &Result<(), Failure>) -> (u8, &'static str)
 }
 
 /// Writes what a task came to as JSON, if that is asked for.
-fn writes<S: Voice + AllocGlobal>(
+fn writes<S: Writes + AllocGlobal>(
     system: &S,
     asked: &Asked,
     report: &Report,
@@ -139,7 +162,7 @@ fn writes<S: Voice + AllocGlobal>(
         return Ok(());
     }
     let (status, name) = end(&asked.task, ended);
-    write_report(system, report, name, status)
+    system.write(&Text::of_report(system.alloc(), report, name, status)?)
 }
 
 /// How a task ends whose result was written, or could not be: that is a failure if there was none before.
@@ -150,21 +173,27 @@ fn or_refused(ended: Result<(), Failure>, written: Result<(), Failure>) -> Resul
 }
 
 /// Does a task, and says and writes what it came to.
-fn does_and_tells<S, F>(
+fn does_and_tells<S, F, R, W>(
     system: &S,
     stores: &mut F,
+    driver: &mut DriverLink<R, W>,
     is_terminal: bool,
     asked: &Asked,
 ) -> Result<(), Failure>
 where
-    S: Input + Print + Voice + AllocGlobal + Clock,
+    S: Voice + Writes + AllocGlobal + Clock,
     F: Stores,
+    R: Read,
+    W: Write,
     ensures why { (name : Option (Bor (List ℕ))) × WhyTold (S.told system.now) result name }
-    ensures done { OnOk result (HasAnswered F.made F.saw (S.told system.now) (S.wrote system.now) asked.now) }
+    ensures done { HasAnswered F.Open.is_up F.Open.is_sound F.Open.holds F.Open.kept F.Open.block F.made F.saw F.opens
+        R.remaining
+        W.contents (S.told system.now) (S.wrote system.now) asked.now stores.old stores.new driver.old driver.new
+        result }
 {
     let mut report = Report::new();
     let manner = Manner::of(asked.is_quiet, is_terminal);
-    let done = does(system, stores, manner, asked, &mut report);
+    let done = does(system, stores, driver, manner, asked, &mut report);
     let written = writes(system, asked, &report, &done);
     ended(system, or_refused(done, written), refused_name(asked))
 }
@@ -193,21 +222,41 @@ fn asked_by(alloc: Global, line: &CommandLine) -> Result<Asked, LineFault>
     asked_of(alloc, line)
 }
 
-/// Does what the words of the command line ask for, and says on standard error why it ended before its end. The driver
-/// is the system's input and output.
-pub fn run_and_say<S, F>(system: &S, stores: &mut F, is_terminal: bool) -> Result<(), Failure>
+/// What the command line asks for. None if help is shown.
+fn found<S>(system: &S) -> Result<Option<Asked>, ConsoleFault>
 where
-    S: Env + Input + Shows + Voice + AllocGlobal + Clock,
-    F: Stores,
-    ensures why { (name : Option (Bor (List ℕ))) × WhyTold (S.told system.now) result name }
-    ensures done { OnOk result (HasServed F.made F.saw (S.told system.now) (S.wrote system.now) (S.shown system.now)) }
+    S: Env + Shows + Eprint + AllocGlobal,
+    ensures { IfOk result (λ found. MatchOption found (S.shown system.now) (λ asked. (name : List ℕ)
+        × (values : Values) × IsAsked name values asked)) }
 {
-    let found = match asked(system, &PROGRAM, asked_by) {
+    asked(system, &PROGRAM, asked_by)
+}
+
+/// Does what the words of the command line ask for over a driver, and says on standard error why it ended before its
+/// end. Nothing else is put than what that asks for.
+pub fn run_and_say<S, F, R, W>(
+    system: &S,
+    stores: &mut F,
+    driver: &mut DriverLink<R, W>,
+    is_terminal: bool,
+) -> Result<(), Failure>
+where
+    S: Env + Shows + Eprint + Voice + Writes + AllocGlobal + Clock,
+    F: Stores,
+    R: Read,
+    W: Write,
+    ensures why { (name : Option (Bor (List ℕ))) × WhyTold (S.told system.now) result name }
+    ensures done { HasServed F.Open.is_up F.Open.is_sound F.Open.holds F.Open.kept F.Open.block F.made F.saw F.opens
+        R.remaining
+        W.contents (S.told system.now) (S.wrote system.now) (S.shown system.now) stores.old stores.new driver.old
+        driver.new result }
+{
+    let found = match found(system) {
         Ok(found) => found,
         Err(fault) => return ended(system, Err(Failure::Console(fault)), None),
     };
     match found {
-        Some(asked) => does_and_tells(system, stores, is_terminal, &asked),
+        Some(asked) => does_and_tells(system, stores, driver, is_terminal, &asked),
         None => Ok(()),
     }
 }

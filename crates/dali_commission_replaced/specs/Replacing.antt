@@ -4,15 +4,10 @@ use Rattle.std.specs.declared.string.String.{String}
 use Rattle.dali_script.specs.Records.{Kept, HasAddress}
 use Rattle.dali_replacement.specs.declared.tables.Giver.TheVariants.{One}
 use Rattle.dali_replacement.specs.Tables.{giver_from, IsComplete}
-use Rattle.dali_commissioning.specs.declared.conducting.PassEnd.{PassEnd}
 use Rattle.dali_replacement.specs.Permit.{confirmed_at, confirmed_random}
 use Rattle.dali_replacement.specs.Swapping.{address_of}
 use Rattle.dali_commission_stores.specs.Calls.{Call, Look}
-use Rattle.dali_commission_said.specs.Said.{AreTold, WhySaid, heard_said}
-use Rattle.dali_commission_said.specs.Reports.{heard_of}
 use Rattle.dali_commission_stores.specs.Keeping.{IsAside}
-use Rattle.dali_commission_said.specs.declared.progress.Aim.{Aim}
-use Rattle.dali_commission_said.specs.declared.said.Said.{Said}
 use Rattle.dali_commission_replaced.specs.declared.replacing.DueSwap.{DueSwap}
 use Rattle.dali_commission_tasks.specs.declared.tasks.Replacement.{Replacement}
 
@@ -24,15 +19,6 @@ IsGiver wanted all number =
     × (wanted.short ≤ wanted.block.last)
     × (length all ≡ 1 → number ≡ 0)
     × (length all ≢ 1 → giver_from 0 wanted.short all ≡ One number)
-
--- WHO GIVES has said how the surveys ended, by the records then
-abbrev pub HasGiven : (Said → Type 0) → Kept → Type 0
-HasGiven told k =
-    (pass : PassEnd)
-    × (aim : Aim)
-    × (lines : List Said)
-    × WhySaid (heard_said (heard_of pass.heard)) pass k aim lines
-    × AreTold told lines
 
 -- A SWAP IS DUE only with new tables that are complete, and with the new gear that was heard
 abbrev pub IsDue : ℕ → List Kept → DueSwap → Type 0

@@ -1,7 +1,5 @@
-use Rattle.std.specs.Prelude.{◌≡◌, ℕ, Bool, true, false, List, [], ◌∷◌, length}
+use Rattle.std.specs.Prelude.{ℕ, Bool, true, false, List, [], ◌∷◌, length}
 use Rattle.dali_script.specs.Records.{Kept}
-use Rattle.dali_replacement.specs.declared.confirmed.Confirmed.{Confirmed}
-use Rattle.dali_replacement.specs.Permit.{confirmed_at, confirmed_random}
 use Rattle.dali_commission_said.specs.declared.said.Said.{Said}
 use Rattle.dali_commission_said.specs.declared.said.Said.TheVariants as said
 
@@ -17,11 +15,3 @@ gear_in (new ∷ more) = length new.enrolled
 
 abbrev pub ConfirmedTold : (Said → Type 0) → ℕ → ℕ → List Kept → Type 0
 ConfirmedTold told a r news = told (said.Replaced a r (gear_in news))
-
--- A REPLACEMENT THAT ENDED WELL has said which gear, that was heard, has the short address now
-abbrev pub HasReplaced : (Said → Type 0) → ℕ → Type 0
-HasReplaced told a =
-    (seen : Confirmed)
-    × (news : List Kept)
-    × (confirmed_at seen ≡ a)
-    × ConfirmedTold told (confirmed_at seen) (confirmed_random seen) news

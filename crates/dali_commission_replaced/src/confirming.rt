@@ -10,6 +10,7 @@ ghost use Rattle.dali_replacement.specs.Permit.{others_at, others_come, others_t
 ghost use Rattle.dali_replacement.specs.Permit.{confirmed_table};
 ghost use Rattle.dali_replacement.specs.Tables.{AreGiven};
 ghost use Rattle.dali_commission_said.specs.Failures.{fault_of, not_given};
+ghost use Rattle.dali_commission_replaced.specs.Asking.{HasAskedOthers};
 ghost use Rattle.dali_commission_replaced.specs.Tellings.{ConfirmedTold, gear_in};
 
 use arrayvec::ArrayVec;
@@ -84,6 +85,9 @@ impl<S: Voice> Asking<'_, S> {
         table: Kept,
         report: &mut Report,
     ) -> Result<OthersThere, Failure>
+        ensures asked { IfOk result (λ _. HasAskedOthers self.now.wanted.now.short come table
+            self.now.wanted.now.missing.items
+            (talk_of R.remaining W.contents driver.old) (talk_of R.remaining W.contents driver.new)) }
         ensures short { IfOk result (λ others. others_at others ≡ self.now.wanted.now.short) }
         ensures come { IfOk result (λ others. others_come others ≡ come) }
         ensures table { IfOk result (λ others. others_table others ≡ table) }

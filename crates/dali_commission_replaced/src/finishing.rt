@@ -1,25 +1,22 @@
 //! An exchange of files that an earlier call has begun is brought to its end, and the bus is asked what is there.
 
 ghost use Rattle.std.specs.Prelude.{◌≡◌, true, IfOk, IfSome};
-ghost use Rattle.dali_commissioning.specs.declared.census.Reply.TheVariants as heard;
-ghost use Rattle.dali_commissioning.specs.Census.{IsAnswered};
-ghost use Rattle.dali_commissioning.specs.Drivers.{Talk, talk_of};
+ghost use Rattle.dali_commissioning.specs.Drivers.{talk_of};
 ghost use Rattle.dali_replacement.specs.Permit.{confirmed_at, confirmed_random};
-ghost use Rattle.dali_replacement.specs.Swapping.{address_of};
+ghost use Rattle.dali_replacement.specs.Swapping.{address_of, names_of};
 ghost use Rattle.dali_replacement.specs.Tables.{AreGiven};
-ghost use Rattle.dali_commission_stores.specs.Calls.{Read};
 ghost use Rattle.dali_commission_said.specs.Failures.{although_exchanged};
 ghost use Rattle.dali_commission_stores.specs.Settling.{IsSettled};
-ghost use Rattle.dali_commission_replaced.specs.Tellings.{FinishTold, HasReplaced};
+ghost use Rattle.dali_commission_replaced.specs.Asking.{HasConfirmed, IsConfirmed};
+ghost use Rattle.dali_commission_replaced.specs.Tellings.{FinishTold};
 
 use crate::confirming::Asking;
-use dali_commission_said::{Failure, Report, Said, Voice, add, or_say, say};
-use dali_commission_stores::{Stores, found, read, say_kept, settle};
+use dali_commission_said::{Failure, Report, Said, Voice, or_say, say};
+use dali_commission_stores::{Stores, found, read_all, say_kept, settle};
 use dali_commissioning::DriverLink;
 use dali_frame::Short;
 use dali_replacement::{Come, Confirmed, ReplaceRefusal, Swap, gathered};
 use dali_script::Kept;
-use std::io;
 use std::io::{Read, Write};
 
 /// Brings a swap of an earlier call to its end, or takes it back, and says which. Whether the new files have taken the
@@ -89,8 +86,9 @@ fn heard<S: Voice, R: Read, W: Write>(
     tables: &[Kept],
     report: &mut Report,
 ) -> Result<Confirmed, Failure>
-    ensures heard { IfOk result (λ seen. (from : Talk) × IsAnswered asking.now.wanted.now.short
-        (heard.Random (confirmed_random seen)) from (talk_of R.remaining W.contents driver.new)) }
+    ensures heard { IfOk result (λ seen. HasConfirmed asking.now.wanted.now.short asking.now.wanted.now.missing.items
+        tables.now (confirmed_random seen)
+        (talk_of R.remaining W.contents driver.old) (talk_of R.remaining W.contents driver.new)) }
     ensures given { IfOk result (λ seen. AreGiven asking.now.wanted.now.short (confirmed_random seen) tables.now) }
     ensures short { IfOk result (λ seen. confirmed_at seen ≡ asking.now.wanted.now.short) }
 {
@@ -121,27 +119,30 @@ fn although_exchanged(failure: Failure) -> Failure
 }
 
 /// Asks the bus whether the new gear has the address, once the files are exchanged.
-pub(crate) fn confirms<S, F>(
+pub(crate) fn confirms<S, F, R, W>(
     asking: &Asking<'_, S>,
     stores: &F,
+    driver: &mut DriverLink<R, W>,
     swap: &Swap,
     report: &mut Report,
 ) -> Result<Confirmed, Failure>
 where
-    S: Input + Print + Voice + AllocGlobal,
+    S: Voice + AllocGlobal,
     F: Stores,
+    R: Read,
+    W: Write,
     ensures short { IfOk result (λ seen. confirmed_at seen ≡ asking.now.wanted.now.short) }
-    ensures told { IfOk result (λ _. HasReplaced (S.told asking.now.system.now) asking.now.wanted.now.short) }
+    ensures confirmed { IfOk result (λ seen. IsConfirmed F.saw (S.told asking.now.system.now)
+        asking.now.wanted.now.short asking.now.wanted.now.missing.items stores.now (names_of swap.now)
+        (confirmed_random seen)
+        (talk_of R.remaining W.contents driver.old) (talk_of R.remaining W.contents driver.new)) }
 {
     let system = asking.system;
     let mut tables = Vec::new(system.alloc());
-    for name in swap.names() {
-        add(&mut tables, read(system, stores, name)?)?;
-    }
-    let mut driver = DriverLink::new(system.alloc(), system.reader(), io::writer(system));
-    let heard = heard(asking, &mut driver, &tables, report);
+    read_all(system, stores, swap.names(), &mut tables)?;
+    let heard = heard(asking, driver, &tables, report);
     let confirmed = report
-        .note_lines(system, &driver, heard)
+        .note_lines(system, driver, heard)
         .map_err(although_exchanged)?;
     asking.say_confirmed(&confirmed, &tables);
     Ok(confirmed)

@@ -1,7 +1,7 @@
 //! `replace`: a new luminaire gets the short address of one that is gone.
 
 ghost use Rattle.std.specs.Prelude.{◌≡◌, ◌↔◌, ◌⊎◌, ℕ, List, true, Some, IsTrue, IfOk, OnOk, string_bytes, option_map};
-ghost use Rattle.std.specs.Prelude.{slice_get, MatchOption};
+ghost use Rattle.std.specs.Prelude.{slice_get, MatchOption, Ok};
 ghost use Rattle.dali_script.specs.Records.{HasAddress};
 ghost use Rattle.dali_replacement.specs.Permit.{confirmed_at, others_at};
 ghost use Rattle.dali_replacement.specs.Tables.{IsGathered, Lacks};
@@ -11,7 +11,13 @@ ghost use Rattle.dali_commission_said.specs.Reports.{own_rows};
 ghost use Rattle.dali_commission_said.specs.Tables.{rows};
 ghost use Rattle.dali_commission_stores.specs.Seen.{ComeSo};
 ghost use Rattle.dali_commission_stores.specs.Settling.{new_at};
-ghost use Rattle.dali_commission_replaced.specs.Tellings.{HasReplaced};
+ghost use Rattle.dali_commissioning.specs.declared.census.Reply.TheVariants as heard;
+ghost use Rattle.dali_commissioning.specs.Census.{IsAnswered};
+ghost use Rattle.dali_commissioning.specs.Drivers.{talk_of};
+ghost use Rattle.dali_replacement.specs.Permit.{confirmed_random, others_come, others_table, permitted_at};
+ghost use Rattle.dali_commission_stores.specs.Lent.{IsLent, IsOpened};
+ghost use Rattle.dali_commission_replaced.specs.Asking.{HasGivenSo, HasGivenIn, GivesFirst};
+ghost use Rattle.dali_commission_replaced.specs.Asking.{HasReplacedSo, HasReplaced};
 
 use crate::confirming::Asking;
 use crate::finishing::{confirms, exchanged};
@@ -34,7 +40,6 @@ use dali_replacement::{
 use dali_reserve::Keep;
 use dali_script::{Block, End, Kept};
 use std::alloc::Global;
-use std::io;
 use std::io::{Read, Write};
 
 /// Whether this table has the short address.
@@ -58,41 +63,59 @@ fn is_anywhere(tables: &[Kept], short: Short) -> bool
 /// Who gives the new gear its short address, into these records, and says how the surveys ended. The records say
 /// whether the new gear has the address: there is none here for any other gear that was heard.
 #[derive(Drop)]
-struct Giving<'a, S, R, W> {
+struct Giving<'a, S> {
     system: &'a S,
-    driver: &'a mut DriverLink<R, W>,
     permit: &'a Permit,
     table: &'a Kept,
     manner: Manner,
 }
 
-impl<S: Voice, R: Read, W: Write> Borrower for Giving<'_, S, R, W> {
-    type Out = ();
-
-    ghost use Rattle.std.specs.Prelude.{◌≡◌, Ok};
-    ghost use Rattle.dali_commission_replaced.specs.Replacing.{HasGiven};
-
-    ghost came = { λ giving kept _. HasGiven (S.told giving.system.now) kept };
-
-    fn take<K: Keep>(self, store: &mut K) -> Result<(), Failure> {
+impl<S: Voice> Giving<'_, S> {
+    /// Gives it, and says how the surveys ended: how the last one did, and whether any gear answered then.
+    fn gives<K: Keep, R: Read, W: Write>(
+        &self,
+        store: &mut K,
+        driver: &mut DriverLink<R, W>,
+    ) -> Result<(Ended, bool), Failure>
+        ensures { OnOk result (HasGivenSo K.is_up K.is_sound K.holds K.kept (K.block store.old)
+            (S.told self.now.system.now) (permitted_at self.now.permit.now) self.now.table.now store.new
+            (talk_of R.remaining W.contents driver.old) (talk_of R.remaining W.contents driver.new)) }
+    {
         let (system, permit, table) = (self.system, self.permit, self.table);
         let mut progress = Progress::new(system, self.manner, 1);
-        let came = permit.give(store, self.driver, &mut progress, table);
+        let came = permit.give(store, driver, &mut progress, table);
         progress.end();
         let pass = match came {
             Ok(pass) => pass,
-            Err(fault) => return Err(failure_of(fault, self.driver.lines())),
+            Err(fault) => return Err(failure_of(fault, driver.lines())),
         };
         let kept = kept(store)?;
-        let last = match ask_at_last(self.driver, &pass, &kept) {
+        let last = match ask_at_last(driver, &pass, &kept) {
             Ok(last) => last,
-            Err(fault) => return Err(failure_of(fault, self.driver.lines())),
+            Err(fault) => return Err(failure_of(fault, driver.lines())),
         };
         let pass = last.pass(&pass);
         say_all(system, &ended_said(&pass, &kept, progress.aim()));
-        match pass.ended {
-            Ended::Done(End::BlockFull) => Ok(()),
-            ended => ended_as(ended, last.is_there),
+        Ok((pass.ended, last.is_there))
+    }
+}
+
+impl<K: Keep, S: Voice, R: Read, W: Write> Borrower<K, DriverLink<R, W>> for Giving<'_, S> {
+    type Out = ();
+
+    ghost use Rattle.std.specs.Prelude.{OnOk};
+    ghost use Rattle.dali_commissioning.specs.Drivers.{talk_of};
+    ghost use Rattle.dali_replacement.specs.Permit.{permitted_at};
+    ghost use Rattle.dali_commission_replaced.specs.Asking.{HasGivenSo};
+
+    ghost came = { λ giving from to x y result. OnOk result (HasGivenSo K.is_up K.is_sound K.holds K.kept (K.block from)
+        (S.told giving.system.now) (permitted_at giving.permit.now) giving.table.now to
+        (talk_of R.remaining W.contents x) (talk_of R.remaining W.contents y)) };
+
+    fn take(self, store: &mut K, driver: &mut DriverLink<R, W>) -> Result<(), Failure> {
+        match self.gives(store, driver)? {
+            (Ended::Done(End::BlockFull), _) => Ok(()),
+            (ended, is_there) => ended_as(ended, is_there),
         }
     }
 }
@@ -173,7 +196,7 @@ fn is_behind(other: &Come, come: &Come) -> bool
     matches!(other, Come::Nowhere) || other == come
 }
 
-impl<S: Input + Print + Voice + AllocGlobal> Replacing<'_, S> {
+impl<S: Voice + AllocGlobal> Replacing<'_, S> {
     /// How far the new file of a name has come, beside what the old one has.
     fn come<F: Stores>(
         &self,
@@ -226,18 +249,21 @@ impl<S: Input + Print + Voice + AllocGlobal> Replacing<'_, S> {
     }
 
     /// Lends the new file of a name.
-    fn renew<F: Stores, B: Borrower>(
+    fn renew<F: Stores, D, B: Borrower<F::Open, D, Out = ()>>(
         &self,
         stores: &mut F,
         name: &str,
         block: Block,
         borrower: B,
+        beside: &mut D,
     ) -> Result<Kept, Failure>
-        ensures { IfOk result (λ kept. F.saw stores.new (Read (new_at name.now) kept)) }
+        ensures seen { IfOk result (λ kept. F.saw stores.new (Read (new_at name.now) kept)) }
+        ensures lent { OnOk result (IsLent (IsOpened F.Open.block F.saw F.opens stores.old (new_at name.now) block)
+            (B.came borrower) beside.old beside.new (Ok tt)) }
     {
         let system = self.asking.system;
         let new = new_of(system.alloc(), name)?;
-        let done = lend(system.alloc(), stores, &new, block, borrower);
+        let done = lend(system.alloc(), stores, &new, block, borrower, beside);
         or_say(system, &new, done)?;
         read(system, stores, &new)
     }
@@ -255,7 +281,10 @@ impl<S: Input + Print + Voice + AllocGlobal> Replacing<'_, S> {
                 from: first,
                 before: old,
             };
-            add(&mut news, self.renew(stores, name, Block::ALL, filling)?)?;
+            add(
+                &mut news,
+                self.renew(stores, name, Block::ALL, filling, &mut ())?,
+            )?;
         }
         Ok(news)
     }
@@ -280,7 +309,10 @@ impl<S: Input + Print + Voice + AllocGlobal> Replacing<'_, S> {
         name: &str,
         others: &OthersThere,
     ) -> Result<Kept, Failure>
-        ensures { IfOk result (λ kept. F.saw stores.new (Read (new_at name.now) kept)) }
+        ensures seen { IfOk result (λ kept. F.saw stores.new (Read (new_at name.now) kept)) }
+        ensures gave { OnOk result (HasGivenIn F.Open.is_up F.Open.is_sound F.Open.holds F.Open.kept F.Open.block
+            F.saw F.opens R.remaining W.contents (S.told self.now.asking.now.system.now) (others_at others.now)
+            (others_come others.now) (others_table others.now) stores.old name.now driver.old driver.new) }
     {
         let asking = self.asking;
         let permit = match others.look(driver) {
@@ -289,12 +321,11 @@ impl<S: Input + Print + Voice + AllocGlobal> Replacing<'_, S> {
         };
         let giving = Giving {
             system: asking.system,
-            driver,
             permit: &permit,
             table: others.table(),
             manner: asking.manner,
         };
-        self.renew(stores, name, permit.block(), giving)
+        self.renew(stores, name, permit.block(), giving, driver)
     }
 
     /// What the new file of the giver has. The short address is given in it if an earlier call has not done so.
@@ -307,7 +338,10 @@ impl<S: Input + Print + Voice + AllocGlobal> Replacing<'_, S> {
     ) -> Result<Kept, Failure>
         ensures { IfOk result (λ kept. (name : List ℕ)
             × (option_map (λ it. string_bytes it) (slice_get self.now.names.now giver) ≡ Some name)
-            × F.saw stores.new (Read (new_at name) kept)) }
+            × F.saw stores.new (Read (new_at name) kept)
+            × GivesFirst F.Open.is_up F.Open.is_sound F.Open.holds F.Open.kept F.Open.block
+            F.saw F.opens R.remaining W.contents (S.told self.now.asking.now.system.now) (others_at others.now)
+            (others_come others.now) (others_table others.now) stores.old name driver.old driver.new) }
     {
         let Some(name) = self.names.get(giver) else {
             return Err(REFUSED);
@@ -335,7 +369,10 @@ impl<S: Input + Print + Voice + AllocGlobal> Replacing<'_, S> {
         others: OthersThere,
         first: &Kept,
     ) -> Result<DueSwap, Failure>
-        ensures { IfOk result (IsDue (others_at others) all.now) }
+        ensures due { IfOk result (IsDue (others_at others) all.now) }
+        ensures last { IfOk result (λ due. IsAnswered (others_at others)
+            (heard.Random (confirmed_random due.confirmed)) (talk_of R.remaining W.contents driver.old)
+            (talk_of R.remaining W.contents driver.new)) }
     {
         let asking = self.asking;
         let news = self.news(stores, all, first)?;
@@ -358,7 +395,11 @@ impl<S: Input + Print + Voice + AllocGlobal> Replacing<'_, S> {
         driver: &mut DriverLink<R, W>,
         all: &[Kept],
     ) -> Result<DueSwap, Failure>
-        ensures { IfOk result (IsDue self.old.asking.now.wanted.now.short all.now) }
+        ensures due { IfOk result (IsDue self.old.asking.now.wanted.now.short all.now) }
+        ensures replaced { IfOk result (λ due. HasReplacedSo F.Open.is_up F.Open.is_sound F.Open.holds F.Open.kept
+            F.Open.block
+            F.saw F.opens R.remaining W.contents (S.told self.old.asking.now.system.now) self.old.asking.now.wanted.now
+            self.old.names.now all.now (confirmed_random due.confirmed) driver.old driver.new) }
     {
         let asking = self.asking;
         if asking.wanted.is_again {
@@ -391,16 +432,23 @@ fn put_aside<S: Voice + AllocGlobal, F: Stores>(
     put_aside(system, stores, more)
 }
 
-impl<S: Input + Print + Voice + AllocGlobal, F: Stores> Holder<F> for Replacing<'_, S> {
+impl<S: Voice + AllocGlobal, F: Stores, R: Read, W: Write> Holder<F, DriverLink<R, W>>
+    for Replacing<'_, S> {
     type Due = DueSwap;
 
     type Out = DueSwap;
 
-    ghost use Rattle.std.specs.Prelude.{◌≡◌};
+    ghost use Rattle.std.specs.Prelude.{◌≡◌, IfOk};
+    ghost use Rattle.dali_replacement.specs.Permit.{confirmed_random};
+    ghost use Rattle.dali_commission_replaced.specs.Asking.{HasReplacedSo};
     ghost use Rattle.dali_commission_replaced.specs.Replacing.{IsDue};
     ghost use Rattle.dali_commission_stores.specs.Settling.{IsExchanged};
 
-    ghost dues = { λ replacing all due. IsDue replacing.asking.now.wanted.now.short all due };
+    ghost dues = { λ replacing all _ _ x y result. IfOk result (λ due. IsDue replacing.asking.now.wanted.now.short all
+        due
+        × HasReplacedSo F.Open.is_up F.Open.is_sound F.Open.holds F.Open.kept F.Open.block
+        F.saw F.opens R.remaining W.contents (S.told replacing.asking.now.system.now) replacing.asking.now.wanted.now
+        replacing.names.now all (confirmed_random due.confirmed) x y) };
 
     ghost ends = { λ _ from to due out. IsExchanged F.made due.swap from to × (out ≡ due) };
 
@@ -408,7 +456,12 @@ impl<S: Input + Print + Voice + AllocGlobal, F: Stores> Holder<F> for Replacing<
         say_refused(self.asking.system, name, failure)
     }
 
-    fn take(&mut self, stores: &mut F, all: &[Kept]) -> Result<DueSwap, Failure> {
+    fn take(
+        &mut self,
+        stores: &mut F,
+        all: &[Kept],
+        driver: &mut DriverLink<R, W>,
+    ) -> Result<DueSwap, Failure> {
         let system = self.asking.system;
         // They may have been announced while the files were opened.
         for name in self.names {
@@ -416,9 +469,8 @@ impl<S: Input + Print + Voice + AllocGlobal, F: Stores> Holder<F> for Replacing<
                 return Err(Failure::Unfinished);
             }
         }
-        let mut driver = DriverLink::new(system.alloc(), system.reader(), io::writer(system));
-        let gave = self.gives(stores, &mut driver, all);
-        self.report.note_lines(system, &driver, gave)
+        let gave = self.gives(stores, driver, all);
+        self.report.note_lines(system, driver, gave)
     }
 
     /// Exchanges the files.
@@ -478,7 +530,7 @@ pub fn note_first<F: Stores>(alloc: Global, stores: &F, name: Option<&str>, repo
         × (report.new.table.items ≡ own_rows kept.reserved (rows kept.enrolled)))) }
 {
     if let Some(name) = name {
-        if let Ok(kept) = lend_copy(alloc, stores, name, Reading) {
+        if let Ok(kept) = lend_copy(alloc, stores, name, Reading, &mut ()) {
             report.note_table(&kept);
         }
     }
@@ -486,19 +538,25 @@ pub fn note_first<F: Stores>(alloc: Global, stores: &F, name: Option<&str>, repo
 
 /// Gives a new luminaire the short address of one that is gone, in all records of the site; or finishes what an earlier
 /// call has begun. The new gear that was heard to have the address.
-pub fn replaces<S, F>(
+pub fn replaces<S, F, R, W>(
     system: &S,
     stores: &mut F,
+    driver: &mut DriverLink<R, W>,
     manner: Manner,
     records: &[String],
     wanted: &Replacement,
     report: &mut Report,
 ) -> Result<Confirmed, Failure>
 where
-    S: Input + Print + Voice + AllocGlobal,
+    S: Voice + AllocGlobal,
     F: Stores,
+    R: Read,
+    W: Write,
     ensures short { IfOk result (λ seen. confirmed_at seen ≡ wanted.now.short) }
-    ensures told { IfOk result (λ _. HasReplaced (S.told system.now) wanted.now.short) }
+    ensures replaced { IfOk result (λ seen. HasReplaced F.Open.is_up F.Open.is_sound F.Open.holds F.Open.kept
+        F.Open.block
+        F.saw F.opens R.remaining W.contents (S.told system.now) wanted.now (confirmed_random seen)
+        driver.old driver.new) }
 {
     let asking = Asking {
         system,
@@ -510,7 +568,7 @@ where
         return Err(asking.refusal(ReplaceRefusal::SameFile));
     }
     if let Some(swap) = exchanged(system, stores, &names, wanted.short)? {
-        return confirms(&asking, stores, &swap, report);
+        return confirms(&asking, stores, driver, &swap, report);
     }
     for name in names.iter() {
         let _ = read(system, stores, name)?;
@@ -520,7 +578,7 @@ where
         names: &names,
         report,
     };
-    let done = stores.hold(system.alloc(), &names, replacing)?;
+    let done = stores.hold(system.alloc(), &names, replacing, driver)?;
     asking.say_confirmed(&done.confirmed, &done.news);
     let _ = say_kept(system, done.swap.names(), done.swap.number());
     Ok(done.confirmed)

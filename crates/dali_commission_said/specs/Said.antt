@@ -150,13 +150,9 @@ why_said (failure.Store fault) (Some name) = Some (said.Refused name fault)
 why_said (failure.Store fault) None = None
 why_said other records = Some (said.Why other)
 
--- A LINE IS SAID, and a text is written: no contract sees what a system does with them, so only who
--- says or writes them may tell
+-- A LINE IS SAID: no contract sees what a system does with it, so only who says it may tell
 unfoldable pub IsTold : {S : Type 0} → S → Said → Type 0
 IsTold on line = Unit {0}
-
-unfoldable pub IsWritten : {S : Type 0} → S → List ℕ → Type 0
-IsWritten on text = Unit {0}
 
 -- LINES ARE SAID, by what tells that one was
 abbrev pub AreTold : (Said → Type 0) → List Said → Type 0

@@ -1,9 +1,9 @@
 //! All that the program says on standard error but how it uses its command line: each a value, with its text.
 
-ghost use Rattle.std.specs.Prelude.{◌≡◌, Err, OnOk};
+ghost use Rattle.std.specs.Prelude.{◌≡◌, Err};
 ghost use Rattle.dali_commission_said.specs.Said.{why_said, AreTold};
 
-use crate::failure::{Failure, REFUSED, StoreFault};
+use crate::failure::{Failure, StoreFault};
 use crate::progress::{Aim, Far};
 use dali_commissioning::Place;
 use dali_console::ConsoleFault;
@@ -210,39 +210,27 @@ fn write_lost<W: fmt::Write>(
     }
 }
 
-/// Who says and writes what the program does. Contracts see which lines were said, and which texts were written.
-pub trait Voice: Eprint + Print {
-    ghost use Rattle.std.specs.Prelude.{ℕ, List};
+/// Who says what the program does, on standard error. Contracts see which lines were said.
+///
+/// It writes nothing on standard output: there the driver reads.
+pub trait Voice: Eprint {
     ghost use Rattle.dali_commission_said.specs.declared.said.Said.{Said};
 
     ghost told: { Self → Said → Type 0 };
 
-    ghost wrote: { Self → List ℕ → Type 0 };
-
     /// Says a line. If it cannot be said, nothing else changes.
     fn tell(&self, said: &Said<'_>)
         ensures { told self.now said.now };
-
-    /// Writes a text on standard output.
-    fn write(&self, text: &str) -> Result<(), Failure>
-        ensures { OnOk result (wrote self.now text.now) };
 }
 
-impl<S: Eprint + Print> Voice for S {
-    ghost use Rattle.dali_commission_said.specs.Said.{IsTold, IsWritten};
+impl<S: Eprint> Voice for S {
+    ghost use Rattle.dali_commission_said.specs.Said.{IsTold};
 
     ghost told = { IsTold };
-
-    ghost wrote = { IsWritten };
 
     #[tactic(auto, unfolding(crate::specs::Said::IsTold))]
     fn tell(&self, said: &Said<'_>) {
         let _ = eprintln!(self; "{said}");
-    }
-
-    #[tactic(auto, unfolding(crate::specs::Said::IsWritten))]
-    fn write(&self, text: &str) -> Result<(), Failure> {
-        self.write_all(text.as_bytes()).map_err(|_| REFUSED)
     }
 }
 

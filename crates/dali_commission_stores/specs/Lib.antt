@@ -1,4 +1,5 @@
 pub mod Calls
 pub mod Keeping
+pub mod Lent
 pub mod Seen
 pub mod Settling

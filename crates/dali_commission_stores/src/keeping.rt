@@ -42,7 +42,11 @@ pub fn put_one_aside<S: Voice + AllocGlobal, F: Stores>(
     }
     let aside = free_aside(alloc, stores, name)?;
     // Once it is closed, nothing of it lies in a log.
-    or_say(system, &new, lend(alloc, stores, &new, Block::ALL, Reading))?;
+    or_say(
+        system,
+        &new,
+        lend(alloc, stores, &new, Block::ALL, Reading, &mut ()),
+    )?;
     or_say(system, &new, stores.rename(alloc, &new, &aside))?;
     say(system, &Said::Aside(&new, &aside));
     Ok(())

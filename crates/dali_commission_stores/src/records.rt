@@ -1,13 +1,15 @@
 //! The records of a name, as the tasks borrow them.
 
-ghost use Rattle.std.specs.Prelude.{◌≡◌, IfOk, string_bytes};
+ghost use Rattle.std.specs.Prelude.{◌≡◌, IfOk, OnOk, string_bytes};
+ghost use Rattle.dali_commissioning.specs.Runs.{IsRead};
 ghost use Rattle.dali_commission_stores.specs.Calls.{Read};
+ghost use Rattle.dali_commission_stores.specs.Lent.{IsLent, IsOpened, Copies, AreRead};
 ghost use Rattle.dali_commission_said.specs.Failures.{answered};
 ghost use Rattle.dali_commission_stores.specs.Seen.{IsBeside, IsSeen};
 
 use crate::settling::found;
 use crate::stores::{Borrower, Stores};
-use dali_commission_said::{Failure, StoreFault, Voice, or_say};
+use dali_commission_said::{Failure, StoreFault, Voice, add, or_say};
 use dali_commissioning::outside;
 use dali_replacement::{journal_of, refill};
 use dali_reserve::{Keep, KeepError};
@@ -34,7 +36,7 @@ impl<'a> Seen<'a> {
         ensures { IfOk result (IsSeen F.saw stores.now name.now block) }
     {
         let journal = journal_beside(alloc, stores, name)?;
-        match outside(&stores.lend_copy(name, &journal, Reading)?, block) {
+        match outside(&stores.lend_copy(name, &journal, Reading, &mut ())?, block) {
             Some(short) => Err(Failure::Outside(short)),
             None => Ok(Seen {
                 name,
@@ -77,32 +79,36 @@ fn journal_beside<F: Stores>(alloc: Global, stores: &F, name: &str) -> Result<St
     }
 }
 
-/// Lends the records of a name, for a controller with this block.
-pub fn lend<F: Stores, B: Borrower>(
+/// Lends the records of a name, for a controller with this block, once they were looked at.
+pub fn lend<F: Stores, D, B: Borrower<F::Open, D>>(
     alloc: Global,
     stores: &mut F,
     name: &str,
     block: Block,
     borrower: B,
+    beside: &mut D,
 ) -> Result<B::Out, Failure>
-    ensures { IfOk result (λ out. (kept : Kept) × B.came borrower kept out) }
+    ensures { IsLent (IsOpened F.Open.block F.saw F.opens stores.old name.now block) (B.came borrower)
+        beside.old beside.new result }
 {
     let seen = Seen::look(alloc, stores, name, block)?;
-    stores.lend(&seen, borrower)
+    stores.lend(&seen, borrower, beside)
 }
 
 /// Lends a copy of the records of a name, if they are there.
-pub fn lend_copy<F: Stores, B: Borrower>(
+pub fn lend_copy<F: Stores, D, B: Borrower<F::Copy, D>>(
     alloc: Global,
     stores: &F,
     name: &str,
     borrower: B,
+    beside: &mut D,
 ) -> Result<B::Out, Failure>
-    ensures { IfOk result (λ out. (kept : Kept) × F.saw stores.now (Read name.now kept) × B.came borrower kept out) }
+    ensures { IsLent (Copies F.Copy.is_up F.Copy.is_sound F.Copy.holds F.Copy.block F.saw stores.now name.now)
+        (B.came borrower) beside.old beside.new result }
 {
     let journal = journal_beside(alloc, stores, name)?;
     if stores.has(name) {
-        stores.lend_copy(name, &journal, borrower)
+        stores.lend_copy(name, &journal, borrower, beside)
     } else {
         Err(Failure::Store(StoreFault::Missing))
     }
@@ -119,7 +125,9 @@ fn answered<T>(done: Result<T, KeepError>) -> Result<T, Failure>
 
 /// The records of a store that is open.
 pub fn kept<K: Keep>(store: &mut K) -> Result<Kept, Failure>
-    ensures { IfOk result (λ kept. kept ≡ K.kept store.new) }
+    ensures kept { IfOk result (λ kept. kept ≡ K.kept store.new) }
+    ensures read { IfOk result (IsRead K.is_up K.is_sound K.holds (K.block store.old) store.old store.new) }
+    ensures block { K.block store.new ≡ K.block store.old }
 {
     answered(store.read())
 }
@@ -131,15 +139,16 @@ pub struct Filling<'a> {
     pub before: &'a Kept,
 }
 
-impl Borrower for Filling<'_> {
+impl<K: Keep, D> Borrower<K, D> for Filling<'_> {
     type Out = ();
 
+    ghost use Rattle.std.specs.Prelude.{◌≡◌, OnOk};
     ghost use Rattle.dali_replacement.specs.Tables.{Keeps, Reserves};
 
-    ghost came = { λ filling kept _. Keeps filling.from.now kept
-        × Reserves filling.before.now.reserved filling.from.now kept };
+    ghost came = { λ filling _ store x y result. (y ≡ x) × OnOk result (Keeps filling.from.now (K.kept store)
+        × Reserves filling.before.now.reserved filling.from.now (K.kept store)) };
 
-    fn take<K: Keep>(self, store: &mut K) -> Result<(), Failure> {
+    fn take(self, store: &mut K, _beside: &mut D) -> Result<(), Failure> {
         answered(refill(store, self.from, self.before.reserved()))
     }
 }
@@ -148,14 +157,16 @@ impl Borrower for Filling<'_> {
 #[derive(Drop)]
 pub struct Reading;
 
-impl Borrower for Reading {
+impl<K: Keep, D> Borrower<K, D> for Reading {
     type Out = Kept;
 
-    ghost use Rattle.std.specs.Prelude.{◌≡◌};
+    ghost use Rattle.std.specs.Prelude.{◌≡◌, IfOk};
+    ghost use Rattle.dali_commissioning.specs.Runs.{IsRead};
 
-    ghost came = { λ _ kept out. out ≡ kept };
+    ghost came = { λ _ from to x y result. (y ≡ x)
+        × IfOk result (IsRead K.is_up K.is_sound K.holds (K.block from) from to) };
 
-    fn take<K: Keep>(self, store: &mut K) -> Result<Kept, Failure> {
+    fn take(self, store: &mut K, _beside: &mut D) -> Result<Kept, Failure> {
         kept(store)
     }
 }
@@ -171,6 +182,23 @@ pub fn read<S: Voice + AllocGlobal, F: Stores>(
     or_say(
         system,
         name,
-        lend_copy(system.alloc(), stores, name, Reading),
+        lend_copy(system.alloc(), stores, name, Reading, &mut ()),
     )
+}
+
+/// Adds the records of these names to those of others.
+#[tactic(auto, using(std::proofs::lemmas::List::append_assoc))]
+pub fn read_all<S: Voice + AllocGlobal, F: Stores>(
+    system: &S,
+    stores: &F,
+    names: &[String],
+    tables: &mut Vec<Kept>,
+) -> Result<(), Failure>
+    ensures { OnOk result (AreRead F.saw stores.now names.now tables.old.items tables.new.items) }
+{
+    let [name, more @ ..] = names else {
+        return Ok(());
+    };
+    add(tables, read(system, stores, name)?)?;
+    read_all(system, stores, more, tables)
 }

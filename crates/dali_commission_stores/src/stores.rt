@@ -1,6 +1,6 @@
 //! Where records are kept: by a name, as in a file.
 
-ghost use Rattle.std.specs.Prelude.{◌≡◌, List, IfOk, option_map, string_bytes};
+ghost use Rattle.std.specs.Prelude.{◌≡◌, List, Result, IfOk, option_map, string_bytes};
 
 use crate::records::Seen;
 use dali_commission_said::Failure;
@@ -8,25 +8,27 @@ use dali_reserve::Keep;
 use dali_script::Kept;
 use std::alloc::Global;
 
-/// Who does something with records while they are open.
-pub trait Borrower: Drop {
-    ghost use Rattle.dali_script.specs.Records.{Kept};
+/// Who does something with records while they are open, and with what is lent beside them, as a driver.
+pub trait Borrower<K, D>: Drop {
+    ghost use Rattle.std.specs.Prelude.{Result};
+    ghost use Rattle.dali_commission_said.specs.declared.failure.Failure.{Failure};
 
     /// What comes of it.
     type Out: Drop;
 
-    /// What it does, if this came of it and the records are these then.
-    ghost came: { Self → Kept → Self.Out → Type 0 };
+    /// What it does, from one moment of both to another, if this comes of it.
+    ghost came: { Self → K → K → D → D → Result Self.Out Failure → Type 0 };
 
     /// Does it.
-    fn take<K: Keep>(self, store: &mut K) -> Result<Self::Out, Failure>
-        ensures { IfOk result (came self (K.kept store.new)) };
+    fn take(self, store: &mut K, beside: &mut D) -> Result<Self::Out, Failure>
+        ensures { came self store.old store.new beside.old beside.new result };
 }
 
-/// Who does something while the records of several names are held, in these places.
-pub trait Holder<F>: Drop {
-    ghost use Rattle.std.specs.Prelude.{List};
+/// Who does something while the records of several names are held, in these places, and with what is lent beside them.
+pub trait Holder<F, D>: Drop {
+    ghost use Rattle.std.specs.Prelude.{List, Result};
     ghost use Rattle.dali_script.specs.Records.{Kept};
+    ghost use Rattle.dali_commission_said.specs.declared.failure.Failure.{Failure};
 
     /// What is to be done once their files are closed.
     type Due: Drop;
@@ -38,16 +40,17 @@ pub trait Holder<F>: Drop {
     fn refused(&self, name: &str, failure: Failure) -> Failure
         ensures { result ≡ failure };
 
-    /// What is due, by the records of the names.
-    ghost dues: { Self → List Kept → Self.Due → Type 0 };
+    /// What it does with the records of the names, from one moment of the places and of what is lent to another, if
+    /// this comes of it.
+    ghost dues: { Self → List Kept → F → F → D → D → Result Self.Due Failure → Type 0 };
 
     /// What it does once the files are closed, from the places before to those after it, if this was due and that came
     /// of it.
     ghost ends: { Self → F → F → Self.Due → Self.Out → Type 0 };
 
     /// Does what is to be done with the records, in the order of their names, and with their files open.
-    fn take(&mut self, stores: &mut F, all: &[Kept]) -> Result<Self::Due, Failure>
-        ensures { IfOk result (dues self.old all.now) };
+    fn take(&mut self, stores: &mut F, all: &[Kept], beside: &mut D) -> Result<Self::Due, Failure>
+        ensures { dues self.old all.now stores.old stores.new beside.old beside.new result };
 
     /// Does what is to be done then, if that ended well, with each file closed and nothing beside it.
     fn then(self, stores: &mut F, due: Self::Due) -> Result<Self::Out, Failure>
@@ -75,11 +78,22 @@ pub trait Actor<F>: Drop {
 pub trait Stores: Sized {
     ghost use Rattle.dali_script.specs.Records.{Kept};
     ghost use Rattle.dali_commission_stores.specs.Calls.{Call, Wrote, Renamed, Likened, Removed};
-    ghost use Rattle.dali_commission_stores.specs.Calls.{Look, Has, Text, Lies, Read};
+    ghost use Rattle.dali_commission_stores.specs.Calls.{Look, Has, Text, Lies};
+    ghost use Rattle.dali_commission_stores.specs.Lent.{IsLent, Copies, IsHeld};
+    ghost use Rattle.dali_commission_stores.specs.declared.records.Seen.{Seen};
+
+    /// Records that are open.
+    type Open: Keep;
+
+    /// A copy of records.
+    type Copy: Keep;
 
     ghost made: { Self → Self → Call → Type 0 };
 
     ghost saw: { Self → Look → Type 0 };
+
+    /// What was seen is opened so.
+    ghost opens: { Self → Seen → Self.Open → Type 0 };
 
     /// Whether something has this name, or that cannot be told.
     fn has(&self, name: &str) -> bool
@@ -88,19 +102,28 @@ pub trait Stores: Sized {
     /// Opens the records that were seen, lends them, and closes them. They are made if there are none. `Unfinished`
     /// if the journal lies there once they are open. What the borrower ends with goes before why they could not be
     /// closed.
-    fn lend<B: Borrower>(&mut self, seen: &Seen<'_>, borrower: B) -> Result<B::Out, Failure>
-        ensures { IfOk result (λ out. (kept : Kept) × B.came borrower kept out) };
+    fn lend<D, B: Borrower<Self::Open, D>>(
+        &mut self,
+        seen: &Seen<'_>,
+        borrower: B,
+        beside: &mut D,
+    ) -> Result<B::Out, Failure>
+        ensures { IsLent (λ lent. opens self.old seen.now lent × (Self.Open.block lent ≡ seen.now.block))
+            (B.came borrower) beside.old beside.new result };
 
     /// Lends a copy of the records of this name, as to a controller with all addresses; one with no records if they
     /// are not there. They are only read: nothing that the borrower does to the copy changes them. `Unfinished` if
     /// this journal lies there once they are read.
-    fn lend_copy<B: Borrower>(
+    fn lend_copy<D, B: Borrower<Self::Copy, D>>(
         &self,
         name: &str,
         journal: &str,
         borrower: B,
+        beside: &mut D,
     ) -> Result<B::Out, Failure>
-        ensures { IfOk result (λ out. (kept : Kept) × saw self.now (Read name.now kept) × B.came borrower kept out) };
+        ensures { IsLent (Copies Self.Copy.is_up Self.Copy.is_sound Self.Copy.holds Self.Copy.block saw self.now
+            name.now)
+            (B.came borrower) beside.old beside.new result };
 
     /// The name under which lies what has this name, whatever links lead there, also if nothing lies there.
     fn place_of(&self, alloc: Global, name: &str) -> Result<String, Failure>
@@ -108,14 +131,14 @@ pub trait Stores: Sized {
 
     /// Reads the records of these names, each of another file, and keeps all others from opening them, until the holder
     /// is done. The caller has seen by `lend_copy` that they are records.
-    fn hold<H: Holder<Self>>(
+    fn hold<D, H: Holder<Self, D>>(
         &mut self,
         alloc: Global,
         names: &[String],
         holder: H,
+        beside: &mut D,
     ) -> Result<H::Out, Failure>
-        ensures { IfOk result (λ out. (by : H) × (from : Self) × (all : List Kept) × (due : H.Due)
-            × H.dues holder all due × H.ends by from self.new due out) };
+        ensures { IsHeld (H.dues holder) H.ends self.old self.new beside.old beside.new result };
 
     /// Keeps all others from acting by what has this name, until the actor is done.
     fn alone<A: Actor<Self>>(&mut self, name: &str, actor: A) -> Result<A::Out, Failure>

@@ -1,4 +1,4 @@
-use Rattle.std.specs.Prelude.{◌≡◌, ℕ, List}
+use Rattle.std.specs.Prelude.{◌≡◌, ℕ, false, List}
 use Rattle.dali_script.specs.declared.block.Block.{Block}
 use Rattle.dali_script.specs.declared.records.Record.{Record}
 use Rattle.dali_script.specs.declared.orders.End.TheVariants.{AllFound}
@@ -8,6 +8,7 @@ use Rattle.dali_commissioning.specs.declared.conducting.Ended.TheVariants.{Done}
 use Rattle.dali_commissioning.specs.declared.conducting.PassEnd.{PassEnd}
 use Rattle.dali_commissioning.specs.Drivers.{Talk}
 use Rattle.dali_commissioning.specs.Runs.{Run, AreRuns, EndWith, AreQuiet}
+use Rattle.dali_commissioning.specs.Unaddressed.{asking_beside, AreLeftOver}
 use Rattle.dali_replacement.specs.declared.come.Come.{Come}
 use Rattle.dali_replacement.specs.declared.come.Come.TheVariants.{Nowhere, Reserved, Given}
 use Rattle.dali_replacement.specs.declared.permit.Vacant.{Vacant}
@@ -17,11 +18,13 @@ use Rattle.dali_replacement.specs.declared.confirmed.Confirmed.{Confirmed}
 use Rattle.dali_replacement.specs.Standing.{table_of}
 use Rattle.dali_replacement.specs.Tables.{Keeps}
 
--- an earlier call has begun to give the address
-abbrev pub IsBegun : Come → Type 0
-IsBegun Nowhere = ⊥
-IsBegun (Reserved r) = Unit {0}
-IsBegun (Given r) = Unit {0}
+-- ONE GEAR ALONE has no short address: with its random address it was withdrawn, and then none
+-- answered; nothing is put if an earlier call has begun to give it the address
+abbrev pub HasLooked : Come → Talk → Talk → Type 0
+HasLooked Nowhere x y =
+    (random : ℕ) × (at : Talk) × AreLeftOver (asking_beside random) false at y
+HasLooked (Reserved r) x y = y ≡ x
+HasLooked (Given r) x y = y ≡ x
 
 -- WHAT EACH THING THAT WAS SEEN IS OF: the short address, how far an earlier call had come, the
 -- table of all others, and the random address that answered

@@ -1,14 +1,15 @@
 //! What must have been seen before a new luminaire is given the short address of one that is gone. Each thing that was
 //! seen makes a value, which the next thing asks for, and only the last one lets the address be given.
 
-ghost use Rattle.std.specs.Prelude.{◌≡◌, ℕ, ◌⊎◌, true, false, IfOk};
+ghost use Rattle.std.specs.Prelude.{◌≡◌, ℕ, true, false, IfOk};
 ghost use Rattle.dali_commissioning.specs.declared.census.Reply.{Reply};
 ghost use Rattle.dali_commissioning.specs.Drivers.{Talk, talk_of};
 ghost use Rattle.dali_commissioning.specs.Census.{IsAnswered};
 ghost use Rattle.dali_commissioning.specs.Unaddressed.{asking_beside, AreLeftOver};
 ghost use Rattle.dali_replacement.specs.Come.{may_be_heard};
 ghost use Rattle.dali_replacement.specs.Standing.{AreThere, table_of, places_of};
-ghost use Rattle.dali_replacement.specs.Permit.{IsBegun, vacant_at, vacant_come, others_at, others_come, others_table};
+ghost use Rattle.dali_replacement.specs.Permit.{HasLooked, vacant_at, vacant_come, others_at, others_come};
+ghost use Rattle.dali_replacement.specs.Permit.{others_table};
 ghost use Rattle.dali_replacement.specs.Permit.{permitted_at, alone, HasGiven};
 
 use crate::come::Come;
@@ -127,8 +128,8 @@ impl OthersThere {
         &self,
         driver: &mut DriverLink<R, W>,
     ) -> Result<Permit, ReplaceFault>
-        ensures seen { IfOk result (λ _. IsBegun (others_come self.now) ⊎ ((random : ℕ) × (at : Talk)
-            × AreLeftOver (asking_beside random) false at (talk_of R.remaining W.contents driver.new))) }
+        ensures seen { IfOk result (λ _. HasLooked (others_come self.now) (talk_of R.remaining W.contents driver.old)
+            (talk_of R.remaining W.contents driver.new)) }
         ensures short { IfOk result (λ permit. permitted_at permit ≡ others_at self.now) }
     {
         let short = self.short;

@@ -15,7 +15,6 @@ use clap::{ArgMatches, Error};
 use dali_console::{ConsoleFault, Plain, words};
 use std::alloc::{AllocError, Global};
 use std::env::Env;
-use std::fmt::Display;
 use std::io;
 use std::io::Eprint;
 
@@ -98,12 +97,12 @@ fn read<T, F: FnOnce(Global, &CommandLine) -> Result<T, LineFault>>(
     }
 }
 
-/// On what help is shown. Contracts see that it was.
-pub trait Shows: Print {
+/// On what help is shown, and nothing else. Contracts see that it was.
+pub trait Shows {
     ghost shown: { Self → Type 0 };
 
-    /// Shows help, or the version.
-    fn show<D: Display + Drop>(&self, help: D) -> io::Result<()>
+    /// Shows help, or the version, as `clap` has it.
+    fn show(&self, help: &Error) -> io::Result<()>
         ensures { OnOk result (shown self.now) };
 }
 
@@ -113,7 +112,7 @@ impl<S: Print> Shows for S {
     ghost shown = { IsShown };
 
     #[tactic(auto, unfolding(crate::specs::Answered::IsShown))]
-    fn show<D: Display + Drop>(&self, help: D) -> io::Result<()> {
+    fn show(&self, help: &Error) -> io::Result<()> {
         self.print(help)
     }
 }

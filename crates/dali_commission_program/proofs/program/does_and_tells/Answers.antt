@@ -1,8 +1,12 @@
-use Rattle.dali_commission_program.proofs.Answered.{answered}
+use Rattle.std.proofs.Common.{◌∙◌}
 use Rattle.dali_commission_program.proofs.program.does_and_tells.Goals as goal
 
 pub returns-clause-done : goal.returns-clause-done
-returns-clause-done g c =
-    answered g.F.Stores.made g.F.Stores.saw (g.S.Voice.told c.args.system.now) (g.S.Voice.wrote c.args.system.now) c.args.asked.now
-    c.does-done.new.report c.does-done.result c.writes-written.result c.or_refused.result c.ended.result c.does-done.ensures
-    c.writes-written.ensures c.or_refused.ensures c.ended.ensures.same
+returns-clause-done g c = (
+  c.does-done.result,
+  c.writes-written.result,
+  c.does-done.new.report,
+  c.does-done.ensures,
+  c.ended.ensures.same ∙ c.or_refused.ensures,
+  c.writes-written.ensures,
+)

@@ -1,9 +1,8 @@
 use Rattle.std.proofs.Common.{refl}
-use Rattle.dali_commission_mended.proofs.Runs.{all_mended}
+use Rattle.dali_commission_mended.proofs.Mended.{all_mended}
 use Rattle.dali_commission_mended.proofs.running.Running.mends.Goals as goal
 
 pub returns : goal.returns
 returns g c =
-    all_mended (g.S.Voice.told c.args.self.system.now) c.args.self.others.now c.args.self.setup.now.block
-    (record { named = c.new.result; missing = c.new-2.result; block = c.args.self.setup.now.block }) c.over-ended.result c.new.ensures.items
-    c.new-2.ensures.items refl c.over-ended.ensures
+    all_mended _ _ _ _ _ _ _ _ (record { named = c.new.result; missing = c.new-2.result; block = c.args.self.setup.now.block })
+    c.new-3.result.items _ _ _ _ c.over-ended.result c.new.ensures.items c.new-2.ensures.items refl c.new-3.ensures.items c.over-ended.ensures

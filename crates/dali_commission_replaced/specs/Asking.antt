@@ -1,0 +1,159 @@
+use Rattle.std.specs.Prelude.{◌≡◌, ◌⊎◌, ℕ, true, List, [], length, Option, Some, option_map}
+use Rattle.std.specs.Prelude.{slice_get, Ok, OnOk, string_bytes}
+use Rattle.std.specs.declared.alloc.Global.{Global}
+use Rattle.std.specs.declared.string.String.{String}
+use Rattle.dali_script.specs.declared.block.Block.{Block}
+use Rattle.dali_script.specs.declared.records.Record.{Record}
+use Rattle.dali_script.specs.Records.{Kept}
+use Rattle.dali_commissioning.specs.declared.census.Reply.{Reply}
+use Rattle.dali_commissioning.specs.declared.census.Reply.TheVariants as heard
+use Rattle.dali_commissioning.specs.declared.conducting.PassEnd.{PassEnd}
+use Rattle.dali_commissioning.specs.declared.driver.DriverLink.{DriverLink}
+use Rattle.dali_commissioning.specs.Census.{IsAnswered}
+use Rattle.dali_commissioning.specs.Drivers.{Talk, talk_of}
+use Rattle.dali_commissioning.specs.Places.{places}
+use Rattle.dali_commissioning.specs.Runs.{IsRead}
+use Rattle.dali_replacement.specs.declared.come.Come.{Come}
+use Rattle.dali_replacement.specs.declared.come.Come.TheVariants.{Given}
+use Rattle.dali_replacement.specs.Come.{may_be_heard}
+use Rattle.dali_replacement.specs.Permit.{HasGiven, HasLooked, alone}
+use Rattle.dali_replacement.specs.Standing.{AreHeard, AreThere}
+use Rattle.dali_replacement.specs.Tables.{IsGathered}
+use Rattle.dali_commission_said.specs.declared.progress.Aim.{Aim}
+use Rattle.dali_commission_said.specs.declared.said.Said.{Said}
+use Rattle.dali_commission_said.specs.Reports.{heard_of}
+use Rattle.dali_commission_said.specs.Said.{AreTold, WhySaid, heard_said}
+use Rattle.dali_commission_stores.specs.Calls.{Look}
+use Rattle.dali_commission_stores.specs.declared.records.Seen.{Seen}
+use Rattle.dali_commission_stores.specs.Lent.{IsLent, IsOpened, AreRead}
+use Rattle.dali_commission_stores.specs.Settling.{new_at}
+use Rattle.dali_commission_asked.specs.declared.ending.AtLast.{AtLast}
+use Rattle.dali_commission_asked.specs.Ending.{HasAskedAtLast, pass_at_last}
+use Rattle.dali_commission_tasks.specs.declared.tasks.Replacement.{Replacement}
+use Rattle.dali_commission_replaced.specs.Replacing.{IsGiver}
+use Rattle.dali_commission_replaced.specs.Tellings.{ConfirmedTold}
+
+-- WHAT `replace` PUTS. First the short address is asked, and then each gear of the table: what is
+-- heard there may be, given how far an earlier call has come, and all others are there but those
+-- that are known to be gone.
+abbrev pub HasAskedOthers : ℕ → Come → Kept → List ℕ → Talk → Talk → Type 0
+HasAskedOthers a come table gone x y =
+    (reply : Reply)
+    × (at : Talk)
+    × (replies : List Reply)
+    × IsAnswered a reply x at
+    × (may_be_heard come reply ≡ true)
+    × (length replies ≡ 64)
+    × AreHeard table 0 replies at y
+    × AreThere 0 gone (places table [] replies)
+
+-- An exchange that an earlier call has begun is confirmed: the gear of its tables is asked for.
+abbrev pub HasConfirmed : ℕ → List ℕ → List Kept → ℕ → Talk → Talk → Type 0
+HasConfirmed a gone tables random x y =
+    (table : Kept)
+    × (given : ℕ)
+    × (at : Talk)
+    × IsGathered a tables table
+    × HasAskedOthers a (Given given) table gone x at
+    × IsAnswered a (heard.Random random) at y
+
+abbrev pub IsConfirmed : {F : Type 0} → (F → Look → Type 0) → (Said → Type 0) → ℕ → List ℕ → F
+    → List (String Global) → ℕ → Talk → Talk → Type 0
+IsConfirmed saw told a gone stores names random x y =
+    (tables : List Kept)
+    × AreRead saw stores names [] tables
+    × HasConfirmed a gone tables random x y
+    × ConfirmedTold told a random tables
+
+-- THE ADDRESS IS GIVEN by surveys over new records that are open; then gear are asked at last, and
+-- it is said how the surveys ended, by the records then.
+pub record HasGivenSo {S : Type 0} (is_up is_sound : S → Type 0)
+    (holds : S → List Record → Type 0) (kept_of : S → Kept) (block : Block) (told : Said → Type 0)
+    (a : ℕ) (table : Kept) (keep : S) (x y : Talk) : Type 0 where
+  pub pass : PassEnd
+  pub mid : S
+  pub at : Talk
+  pub gave : HasGiven is_up is_sound holds kept_of block a table mid x at pass
+  pub after : Kept
+  pub of : Block
+  pub reads : IsRead is_up is_sound holds of mid keep after
+  pub last : AtLast
+  pub asked : HasAskedAtLast pass after.enrolled last at y
+  pub aim : Aim
+  pub lines : List Said
+  pub why : WhySaid (heard_said (heard_of (pass_at_last pass last).heard)) (pass_at_last pass last)
+      after aim lines
+  pub said : AreTold told lines
+
+-- In the giver's new file it is given only once one gear alone has no short address; nothing is put
+-- if an earlier call has given it.
+abbrev pub HasGivenIn : {F K R W : Type 0} (is_up is_sound : K → Type 0)
+    (holds : K → List Record → Type 0) (kept_of : K → Kept) (block_of : K → Block)
+    → (F → Look → Type 0) → (F → Seen → K → Type 0) → (R → Option (List ℕ))
+    → (W → Option (List ℕ)) → (Said → Type 0) → ℕ → Come → Kept → F → List ℕ → DriverLink R W
+    → DriverLink R W → Type 0
+HasGivenIn {R = R} {W = W} is_up is_sound holds kept_of block_of saw opens remaining contents told a
+    come table stores name x y =
+    (mid : DriverLink R W)
+    × HasLooked come (talk_of remaining contents x) (talk_of remaining contents mid)
+    × IsLent (IsOpened block_of saw opens stores (new_at name) (alone a))
+    (λ from to p q done. OnOk done
+    (HasGivenSo is_up is_sound holds kept_of (block_of from) told a table to
+    (talk_of remaining contents p) (talk_of remaining contents q)))
+    mid y (Ok (tt {0}))
+
+abbrev pub GivesFirst : {F K R W : Type 0} (is_up is_sound : K → Type 0)
+    (holds : K → List Record → Type 0) (kept_of : K → Kept) (block_of : K → Block)
+    → (F → Look → Type 0) → (F → Seen → K → Type 0) → (R → Option (List ℕ))
+    → (W → Option (List ℕ)) → (Said → Type 0) → ℕ → Come → Kept → F → List ℕ → DriverLink R W
+    → DriverLink R W → Type 0
+GivesFirst is_up is_sound holds kept_of block_of saw opens remaining contents told a come table
+    stores name x y =
+    ((r : ℕ) × (come ≡ Given r) × (y ≡ x))
+    ⊎ HasGivenIn is_up is_sound holds kept_of block_of saw opens remaining contents told a come
+    table stores name x y
+
+-- A REPLACEMENT asks for all others, gives the address in the giver's new file, and asks for the
+-- new gear at last.
+pub record HasReplacedSo {F K R W : Type 0} (is_up is_sound : K → Type 0)
+    (holds : K → List Record → Type 0) (kept_of : K → Kept) (block_of : K → Block)
+    (saw : F → Look → Type 0) (opens : F → Seen → K → Type 0) (remaining : R → Option (List ℕ))
+    (contents : W → Option (List ℕ)) (told : Said → Type 0) (wanted : Replacement)
+    (names : List (String Global)) (all : List Kept) (random : ℕ) (x y : DriverLink R W)
+    : Type 0 where
+  pub stores : F
+  pub giver : ℕ
+  pub gives : IsGiver wanted all giver
+  pub name : List ℕ
+  pub at : option_map (λ it. string_bytes it) (slice_get names giver) ≡ Some name
+  pub come : Come
+  pub table : Kept
+  pub gathered : IsGathered wanted.short all table
+  pub before : DriverLink R W
+  pub others : HasAskedOthers wanted.short come table wanted.missing.items
+      (talk_of remaining contents x) (talk_of remaining contents before)
+  pub after : DriverLink R W
+  pub first : GivesFirst is_up is_sound holds kept_of block_of saw opens remaining contents told
+      wanted.short come table stores name before after
+  pub last : IsAnswered wanted.short (heard.Random random) (talk_of remaining contents after)
+      (talk_of remaining contents y)
+
+-- WHAT A CALL PUTS that ended well, with the new gear that was heard: an exchange of an earlier
+-- call is confirmed, or the luminaire is replaced. It is said which gear has the address now.
+abbrev pub HasReplaced : {F K R W : Type 0} (is_up is_sound : K → Type 0)
+    (holds : K → List Record → Type 0) (kept_of : K → Kept) (block_of : K → Block)
+    → (F → Look → Type 0) → (F → Seen → K → Type 0) → (R → Option (List ℕ))
+    → (W → Option (List ℕ)) → (Said → Type 0) → Replacement → ℕ → DriverLink R W → DriverLink R W
+    → Type 0
+HasReplaced {F = F} is_up is_sound holds kept_of block_of saw opens remaining contents told wanted
+    random x y =
+    ((stores : F)
+    × (names : List (String Global))
+    × IsConfirmed saw told wanted.short wanted.missing.items stores names random
+    (talk_of remaining contents x) (talk_of remaining contents y))
+    ⊎ ((names : List (String Global))
+    × (all : List Kept)
+    × (news : List Kept)
+    × HasReplacedSo is_up is_sound holds kept_of block_of saw opens remaining contents told wanted
+    names all random x y
+    × ConfirmedTold told wanted.short random news)

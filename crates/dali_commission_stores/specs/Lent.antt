@@ -1,0 +1,66 @@
+use Rattle.std.specs.Prelude.{◌≡◌, ◌⊎◌, ℕ, List, [], ◌∷◌, ◌++◌, Result, Ok, IsErr, IfOk}
+use Rattle.std.specs.Prelude.{string_bytes}
+use Rattle.std.specs.declared.alloc.Global.{Global}
+use Rattle.std.specs.declared.string.String.{String}
+use Rattle.dali_script.specs.declared.block.Block.{Block}
+use Rattle.dali_script.specs.declared.records.Record.{Record}
+use Rattle.dali_script.specs.Records.{Kept}
+use Rattle.dali_commissioning.specs.Runs.{IsRead}
+use Rattle.dali_commission_said.specs.declared.failure.Failure.{Failure}
+use Rattle.dali_commission_stores.specs.Calls.{Look, Read}
+use Rattle.dali_commission_stores.specs.declared.records.Seen.{Seen}
+use Rattle.dali_commission_stores.specs.Seen.{IsSeen}
+
+-- RECORDS ARE LENT, and something beside them: they cannot be had, and what is lent beside them is
+-- as it was; or they are opened so, and the borrower does what it does. If all ends well, then as
+-- the borrower did.
+abbrev pub IsLent : {K D Out : Type 0} → (K → Type 0)
+    → (K → K → D → D → Result Out Failure → Type 0) → D → D → Result Out Failure → Type 0
+IsLent {K = K} {Out = Out} opens came x y result =
+    (IsErr result × (y ≡ x))
+    ⊎ ((from : K)
+    × (to : K)
+    × (done : Result Out Failure)
+    × opens from
+    × came from to x y done
+    × IfOk result (λ out. done ≡ Ok out))
+
+-- A COPY of the records of a name, as of a controller that has all short addresses: what is read of
+-- it is what was seen
+abbrev pub Copies : {F K : Type 0} (is_up is_sound : K → Type 0) (holds : K → List Record → Type 0)
+    (block : K → Block) → (F → Look → Type 0) → F → List ℕ → K → Type 0
+Copies {K = K} is_up is_sound holds block saw stores name copy =
+    ((block copy).first ≡ 0)
+    × ((block copy).last ≡ 63)
+    × ((at : K) (k : Kept) → IsRead is_up is_sound holds (block copy) copy at k
+    → saw stores (Read name k))
+
+-- RECORDS OF SEVERAL NAMES ARE HELD, and something is lent beside them: they cannot be had, and all
+-- is as it was; or the holder does with them what it does, and then, if that ended well, what was
+-- due.
+abbrev pub IsHeld : {F D H Due Out : Type 0}
+    → (List Kept → F → F → D → D → Result Due Failure → Type 0)
+    → (H → F → F → Due → Out → Type 0) → F → F → D → D → Result Out Failure → Type 0
+IsHeld {F = F} {H = H} {Due = Due} dues ends was now x y result =
+    (IsErr result × (now ≡ was) × (y ≡ x))
+    ⊎ ((all : List Kept)
+    × (at : F)
+    × (done : Result Due Failure)
+    × dues all was at x y done
+    × IfOk result (λ out. (by : H) × (due : Due) × (done ≡ Ok due) × ends by at now due out))
+
+-- RECORDS THAT WERE SEEN ARE OPENED, for a controller with a block
+abbrev pub IsOpened : {F K : Type 0} → (K → Block) → (F → Look → Type 0) → (F → Seen → K → Type 0)
+    → F → List ℕ → Block → K → Type 0
+IsOpened block_of saw opens stores name block lent =
+    ((seen : Seen) × IsSeen saw stores name block seen × opens stores seen lent)
+    × (block_of lent ≡ block)
+
+-- RECORDS ARE READ, those of each name, behind others
+abbrev pub AreRead : {F : Type 0} → (F → Look → Type 0) → F → List (String Global) → List Kept
+    → List Kept → Type 0
+AreRead saw stores [] before after = after ≡ before
+AreRead saw stores (name ∷ more) before after =
+    (k : Kept)
+    × saw stores (Read (string_bytes name) k)
+    × AreRead saw stores more (before ++ k ∷ []) after
