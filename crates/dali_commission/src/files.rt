@@ -1,8 +1,7 @@
 //! Records in files, each a SQLite database.
 
 ghost use Rattle.std.specs.Prelude.{◌≡◌, ◌++◌, ◌↔◌, ◌⊎◌, ℕ, List, [], ◌∷◌, codes, string_bytes};
-ghost use Rattle.std.specs.Prelude.{Ok, Err, IfOk, IfErr, OnOk, OnErr, IfSome, None, true, IsTrue};
-ghost use Rattle.dali_sqlite.specs.declared.keep.SqliteKeep.{SqliteKeep};
+ghost use Rattle.std.specs.Prelude.{Ok, Err, IfOk, IfErr, OnOk, IfSome, None, true, IsTrue};
 ghost use Rattle.std.specs.IoError.{error_kind, raw_os_error};
 ghost use Rattle.sqlite.specs.Files.{over_files};
 ghost use Rattle.sqlite.specs.Held.{state, IsNew};
@@ -20,7 +19,7 @@ ghost use Rattle.dali_commission.specs.Opened.{names_of};
 
 use crate::log::is_damaged;
 use crate::places::{folder_of, place};
-use dali_commission_program::{Actor, Borrower, Failure, Holder, Seen, StoreFault, Stores};
+use dali_commission_program::{Actor, Failure, Holder, Seen, StoreFault, Stores};
 use dali_reserve::{Keep, KeepError};
 use dali_script::{Block, Kept};
 use dali_sqlite::{CopyError, SqliteKeep, open_copy};
@@ -261,27 +260,6 @@ fn opened(rt: &HostRuntime, name: &str) -> Result<Connection<FileStore<File>>, S
     }
 }
 
-/// Lends the records in a database, and answers what the borrower ended with, and the database.
-///
-/// It does not know what the database lies in: each function that does, and has a store, costs 30 seconds of proof.
-fn lent<S: Alter + Drop, D, B: Borrower<SqliteKeep<S>, D>>(
-    conn: Connection<S>,
-    block: Block,
-    borrower: B,
-    beside: &mut D,
-) -> Result<(Connection<S>, Result<B::Out, Failure>), StoreFault>
-    ensures unlent { OnErr result (beside.new ≡ beside.old) }
-    ensures lent { IfOk result (λ came. (from to : SqliteKeep S) × (block_of from ≡ block)
-        × B.came borrower from to beside.old beside.new came.1) }
-{
-    let mut store = match SqliteKeep::over(conn, block) {
-        Ok(store) => store,
-        Err(error) => return Err(StoreFault::Store(error)),
-    };
-    let done = borrower.take(&mut store, beside);
-    Ok((store.into_connection(), done))
-}
-
 /// What the records in a database are, and the database.
 fn noted<S: Alter + Drop>(conn: Connection<S>) -> Result<(Connection<S>, Kept), StoreFault>
     ensures kept { IfOk result (λ came. IsUp (state S.Store came.0) → (xs : List Record)
@@ -496,39 +474,41 @@ impl<'a> Stores for Files<'a> {
         fs::exists(self.rt, name).unwrap_or(true)
     }
 
-    fn lend<D, B: Borrower<SqliteKeep<FileStore<File>>, D>>(
-        &mut self,
-        seen: &Seen<'_>,
-        borrower: B,
-        beside: &mut D,
-    ) -> Result<B::Out, Failure> {
+    fn open(&mut self, seen: &Seen<'_>) -> Result<SqliteKeep<FileStore<File>>, Failure> {
         let (rt, name) = (self.rt, seen.name());
         let conn = opened(rt, name)?;
         if self.has(seen.journal()) {
             let _ = shut(rt, name, conn);
             return Err(Failure::Unfinished);
         }
-        let (conn, done) = lent(conn, seen.block(), borrower, beside)?;
-        let shut = shut(rt, name, conn);
-        let done = done.map_err(|failure| why_failed(rt, name, failure))?;
-        match shut {
-            Ok(_) => Ok(done),
+        match SqliteKeep::over(conn, seen.block()) {
+            Ok(store) => Ok(store),
+            Err(error) => Err(Failure::Store(StoreFault::Store(error))),
+        }
+    }
+
+    fn close(&mut self, seen: &Seen<'_>, open: SqliteKeep<FileStore<File>>) -> Result<(), Failure> {
+        let (rt, name) = (self.rt, seen.name());
+        match shut(rt, name, open.into_connection()) {
+            Ok(_) => Ok(()),
             Err(fault) => Err(why_failed(rt, name, Failure::Store(fault))),
         }
     }
 
-    fn lend_copy<D, B: Borrower<SqliteKeep<FileStore<sqlite_disk::Memory>>, D>>(
+    fn why(&self, seen: &Seen<'_>, failure: Failure) -> Failure {
+        why_failed(self.rt, seen.name(), failure)
+    }
+
+    fn copy(
         &self,
         name: &str,
         journal: &str,
-        borrower: B,
-        beside: &mut D,
-    ) -> Result<B::Out, Failure> {
-        let mut store = copied(self.rt, name)?;
+    ) -> Result<SqliteKeep<FileStore<sqlite_disk::Memory>>, Failure> {
+        let store = copied(self.rt, name)?;
         if self.has(journal) {
             return Err(Failure::Unfinished);
         }
-        borrower.take(&mut store, beside)
+        Ok(store)
     }
 
     fn place_of(&self, alloc: Global, name: &str) -> Result<String, Failure> {

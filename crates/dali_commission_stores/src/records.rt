@@ -1,6 +1,6 @@
 //! The records of a name, as the tasks borrow them.
 
-ghost use Rattle.std.specs.Prelude.{◌≡◌, IfOk, OnOk, string_bytes};
+ghost use Rattle.std.specs.Prelude.{◌≡◌, Ok, IfOk, OnOk, string_bytes};
 ghost use Rattle.dali_commissioning.specs.Runs.{IsRead};
 ghost use Rattle.dali_commission_stores.specs.Calls.{Read};
 ghost use Rattle.dali_commission_stores.specs.Lent.{IsLent, IsOpened, Copies, AreRead};
@@ -36,7 +36,7 @@ impl<'a> Seen<'a> {
         ensures { IfOk result (IsSeen F.saw stores.now name.now block) }
     {
         let journal = journal_beside(alloc, stores, name)?;
-        match outside(&stores.lend_copy(name, &journal, Reading, &mut ())?, block) {
+        match outside(&kept(&mut stores.copy(name, &journal)?)?, block) {
             Some(short) => Err(Failure::Outside(short)),
             None => Ok(Seen {
                 name,
@@ -79,7 +79,40 @@ fn journal_beside<F: Stores>(alloc: Global, stores: &F, name: &str) -> Result<St
     }
 }
 
-/// Lends the records of a name, for a controller with this block, once they were looked at.
+/// How it ended, once the records are closed: why they could not be closed comes after what the borrower ended with.
+fn ended<T: Drop, F: Stores>(
+    stores: &F,
+    seen: &Seen<'_>,
+    done: Result<T, Failure>,
+    closed: Result<(), Failure>,
+) -> Result<T, Failure>
+    ensures { IfOk result (λ out. done ≡ Ok out) }
+{
+    match (done, closed) {
+        (Ok(out), Ok(())) => Ok(out),
+        (Ok(_), Err(failure)) => Err(failure),
+        (Err(failure), _) => Err(stores.why(seen, failure)),
+    }
+}
+
+/// Opens records that were seen, lends them, and closes them.
+fn lend_seen<F: Stores, D, B: Borrower<F::Open, D>>(
+    stores: &mut F,
+    seen: &Seen<'_>,
+    borrower: B,
+    beside: &mut D,
+) -> Result<B::Out, Failure>
+    ensures { IsLent (λ lent. F.opens stores.old seen.now lent × (F.Open.block lent ≡ seen.now.block))
+        (B.came borrower) beside.old beside.new result }
+{
+    let mut open = stores.open(seen)?;
+    let done = borrower.take(&mut open, beside);
+    let closed = stores.close(seen, open);
+    ended(stores, seen, done, closed)
+}
+
+/// Looks at the records of a name, opens them for a controller with this block, lends them, and closes them. They are
+/// made if there are none.
 pub fn lend<F: Stores, D, B: Borrower<F::Open, D>>(
     alloc: Global,
     stores: &mut F,
@@ -92,7 +125,7 @@ pub fn lend<F: Stores, D, B: Borrower<F::Open, D>>(
         beside.old beside.new result }
 {
     let seen = Seen::look(alloc, stores, name, block)?;
-    stores.lend(&seen, borrower, beside)
+    lend_seen(stores, &seen, borrower, beside)
 }
 
 /// Lends a copy of the records of a name, if they are there.
@@ -108,7 +141,8 @@ pub fn lend_copy<F: Stores, D, B: Borrower<F::Copy, D>>(
 {
     let journal = journal_beside(alloc, stores, name)?;
     if stores.has(name) {
-        stores.lend_copy(name, &journal, borrower, beside)
+        let mut copy = stores.copy(name, &journal)?;
+        borrower.take(&mut copy, beside)
     } else {
         Err(Failure::Store(StoreFault::Missing))
     }

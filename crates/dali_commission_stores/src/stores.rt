@@ -72,21 +72,21 @@ pub trait Actor<F>: Drop {
 
 /// Places where records are kept.
 ///
-/// Records are lent and not handed out, so that nothing else has to know what they are kept in. Contracts see which
-/// calls were made that change something, with their names, from the places before a call to those after it, and what
-/// was seen at a look (`saw`); not what lies there, which other programs may change.
+/// Nothing else has to know what records are kept in. Contracts see which calls were made that change something, with
+/// their names, from the places before a call to those after it, and what was seen at a look (`saw`); not what lies
+/// there, which other programs may change.
 pub trait Stores: Sized {
     ghost use Rattle.dali_script.specs.Records.{Kept};
     ghost use Rattle.dali_commission_stores.specs.Calls.{Call, Wrote, Renamed, Likened, Removed};
     ghost use Rattle.dali_commission_stores.specs.Calls.{Look, Has, Text, Lies};
-    ghost use Rattle.dali_commission_stores.specs.Lent.{IsLent, Copies, IsHeld};
+    ghost use Rattle.dali_commission_stores.specs.Lent.{Copies, IsHeld};
     ghost use Rattle.dali_commission_stores.specs.declared.records.Seen.{Seen};
 
     /// Records that are open.
-    type Open: Keep;
+    type Open: Keep + Drop;
 
     /// A copy of records.
-    type Copy: Keep;
+    type Copy: Keep + Drop;
 
     ghost made: { Self → Self → Call → Type 0 };
 
@@ -99,38 +99,30 @@ pub trait Stores: Sized {
     fn has(&self, name: &str) -> bool
         ensures { saw self.now (Has name.now result) };
 
-    /// Opens the records that were seen, lends them, and closes them. They are made if there are none. `Unfinished`
-    /// if the journal lies there once they are open. What the borrower ends with goes before why they could not be
-    /// closed.
-    fn lend<D, B: Borrower<Self::Open, D>>(
-        &mut self,
-        seen: &Seen<'_>,
-        borrower: B,
-        beside: &mut D,
-    ) -> Result<B::Out, Failure>
-        ensures { IsLent (λ lent. opens self.old seen.now lent × (Self.Open.block lent ≡ seen.now.block))
-            (B.came borrower) beside.old beside.new result };
+    /// Opens the records that were seen. They are made if there are none. `Unfinished` if the journal lies there once
+    /// they are open.
+    fn open(&mut self, seen: &Seen<'_>) -> Result<Self::Open, Failure>
+        ensures { IfOk result (λ lent. opens self.old seen.now lent × (Self.Open.block lent ≡ seen.now.block)) };
 
-    /// Lends a copy of the records of this name, as to a controller with all addresses; one with no records if they
-    /// are not there. They are only read: nothing that the borrower does to the copy changes them. `Unfinished` if
-    /// this journal lies there once they are read.
-    fn lend_copy<D, B: Borrower<Self::Copy, D>>(
-        &self,
-        name: &str,
-        journal: &str,
-        borrower: B,
-        beside: &mut D,
-    ) -> Result<B::Out, Failure>
-        ensures { IsLent (Copies Self.Copy.is_up Self.Copy.is_sound Self.Copy.holds Self.Copy.block saw self.now
-            name.now)
-            (B.came borrower) beside.old beside.new result };
+    /// Closes records that were opened.
+    fn close(&mut self, seen: &Seen<'_>, open: Self::Open) -> Result<(), Failure>;
+
+    /// Why a call of records that are open has failed, if the system tells more of it.
+    fn why(&self, seen: &Seen<'_>, failure: Failure) -> Failure;
+
+    /// A copy of the records of this name, as of a controller with all addresses; one with no records if they are not
+    /// there. Nothing that is done to the copy changes them. `Unfinished` if this journal lies there once they are
+    /// read.
+    fn copy(&self, name: &str, journal: &str) -> Result<Self::Copy, Failure>
+        ensures { IfOk result (Copies Self.Copy.is_up Self.Copy.is_sound Self.Copy.holds Self.Copy.block
+            saw self.now name.now) };
 
     /// The name under which lies what has this name, whatever links lead there, also if nothing lies there.
     fn place_of(&self, alloc: Global, name: &str) -> Result<String, Failure>
         ensures { IfOk result (λ at. saw self.now (Lies name.now (string_bytes at))) };
 
     /// Reads the records of these names, each of another file, and keeps all others from opening them, until the holder
-    /// is done. The caller has seen by `lend_copy` that they are records.
+    /// is done. The caller has seen by `copy` that they are records.
     fn hold<D, H: Holder<Self, D>>(
         &mut self,
         alloc: Global,
