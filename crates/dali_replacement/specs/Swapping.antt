@@ -1,4 +1,4 @@
-use Rattle.std.specs.Prelude.{ℕ, List}
+use Rattle.std.specs.Prelude.{ℕ, List, map, string_bytes}
 use Rattle.std.specs.declared.alloc.Global.{Global}
 use Rattle.std.specs.declared.string.String.{String}
 use Rattle.dali_replacement.specs.declared.swapping.Swap.{Swap}
@@ -13,3 +13,7 @@ number_of s = s.number
 
 abbrev pub names_of : Swap → List (String Global)
 names_of s = s.names.items
+
+-- the names, each by its bytes
+abbrev pub texts_of : Swap → List (List ℕ)
+texts_of s = map string_bytes (names_of s)

@@ -1,10 +1,11 @@
 //! A swap of files of records, its journal, and the names of what lies beside a file.
 
-ghost use Rattle.std.specs.Prelude.{◌≡◌, ◌≤◌, ◌++◌, ◌↔◌, IsOk, IfOk, codes, decimal, length, min, string_bytes};
-ghost use Rattle.std.specs.Prelude.{vec_len};
+ghost use Rattle.std.specs.Prelude.{◌≡◌, ◌≤◌, ◌++◌, ◌↔◌, IsOk, IfOk, IsTrue, codes, decimal, length, min, string_bytes};
+ghost use Rattle.std.specs.Prelude.{map, vec_len};
+ghost use Rattle.dali_script.specs.Records.{Has};
 ghost use Rattle.dali_replacement.specs.Permit.{confirmed_at, confirmed_random, confirmed_table};
 ghost use Rattle.dali_replacement.specs.Tables.{IsComplete, IsGathered};
-ghost use Rattle.dali_replacement.specs.Swapping.{address_of, number_of, names_of};
+ghost use Rattle.dali_replacement.specs.Swapping.{address_of, number_of, names_of, texts_of};
 
 use crate::confirmed::Confirmed;
 use crate::refusal::ReplaceRefusal;
@@ -52,6 +53,22 @@ pub fn kept_of(alloc: Global, name: &str, number: u32) -> Result<String, AllocEr
     ensures { IfOk result (λ at. string_bytes at ≡ name.now ++ (codes ".before-" ++ decimal number)) }
 {
     format!(in alloc; "{name}.before-{number}")
+}
+
+fn is_text(other: &String, name: &str) -> bool
+    ensures { IsTrue result ↔ (string_bytes other.now ≡ name.now) }
+{
+    other.as_str() == name
+}
+
+/// Whether one of some names is this one.
+fn has_text(names: &[String], name: &str) -> bool
+    ensures { IsTrue result ↔ Has (map string_bytes names.now) name.now }
+{
+    match names {
+        [] => false,
+        [other, more @ ..] => is_text(other, name) || has_text(more, name),
+    }
 }
 
 /// The names that stand on lines of their own.
@@ -173,7 +190,9 @@ impl Swap {
     }
 
     /// Whether one of its files has this name.
-    pub fn has(&self, name: &str) -> bool {
-        self.names.iter().any(|other| other.as_str() == name)
+    pub fn has(&self, name: &str) -> bool
+        ensures { IsTrue result ↔ Has (texts_of self.now) name.now }
+    {
+        has_text(&self.names, name)
     }
 }
