@@ -1,11 +1,11 @@
 //! A swap of files of records, its journal, and the names of what lies beside a file.
 
-ghost use Rattle.std.specs.Prelude.{◌≡◌, ◌≤◌, ◌++◌, ◌↔◌, IsOk, IfOk, IsTrue, codes, decimal, length, min, string_bytes};
-ghost use Rattle.std.specs.Prelude.{map, vec_len};
+ghost use Rattle.std.specs.Prelude.{◌≡◌, ◌≤◌, ◌++◌, ◌↔◌, IsOk, IfOk, IfSome, OnOk, IsTrue, codes, decimal, length, min};
+ghost use Rattle.std.specs.Prelude.{map, string_bytes, vec_len};
 ghost use Rattle.dali_script.specs.Records.{Has};
 ghost use Rattle.dali_replacement.specs.Permit.{confirmed_at, confirmed_random, confirmed_table};
 ghost use Rattle.dali_replacement.specs.Tables.{IsComplete, IsGathered};
-ghost use Rattle.dali_replacement.specs.Swapping.{address_of, number_of, names_of, texts_of};
+ghost use Rattle.dali_replacement.specs.Swapping.{address_of, number_of, names_of, texts_of, lines_of, swap_text};
 
 use crate::confirmed::Confirmed;
 use crate::refusal::ReplaceRefusal;
@@ -69,6 +69,17 @@ fn has_text(names: &[String], name: &str) -> bool
         [] => false,
         [other, more @ ..] => is_text(other, name) || has_text(more, name),
     }
+}
+
+/// Adds names to a text, each on a line of its own.
+fn put_lines(text: &mut String, names: &[String]) -> Result<(), AllocError>
+    ensures { OnOk result (string_bytes text.new ≡ string_bytes text.old ++ lines_of (map string_bytes names.now)) }
+{
+    let [name, more @ ..] = names else {
+        return Ok(());
+    };
+    write!(text, "{name}\n")?;
+    put_lines(text, more)
 }
 
 /// The names that stand on lines of their own.
@@ -152,29 +163,36 @@ impl Swap {
         &self.names
     }
 
-    /// The swap that a journal is of. None if it is none.
-    pub fn read(alloc: Global, text: &str) -> Result<Option<Swap>, AllocError> {
+    /// The swap that a journal is of, whose text is this one, byte by byte. None if it is none.
+    pub fn read(alloc: Global, text: &str) -> Result<Option<Swap>, AllocError>
+        ensures { IfOk result (λ read. IfSome read (λ swap. swap_text swap ≡ text.now)) }
+    {
         let Some((short, number, names)) = numbers_in(text) else {
             return Ok(None);
         };
-        match names_in(alloc, names)? {
-            Some(names) => Ok(Some(Swap {
-                short,
-                number,
-                names,
-            })),
-            None => Ok(None),
+        let Some(names) = names_in(alloc, names)? else {
+            return Ok(None);
+        };
+        let swap = Swap {
+            short,
+            number,
+            names,
+        };
+        let own = swap.text(alloc)?;
+        if own.as_str() == text {
+            Ok(Some(swap))
+        } else {
+            Ok(None)
         }
     }
 
     /// The text of its journal.
-    pub fn text(&self, alloc: Global) -> Result<String, AllocError> {
+    pub fn text(&self, alloc: Global) -> Result<String, AllocError>
+        ensures { IfOk result (λ text. string_bytes text ≡ swap_text self.now) }
+    {
         let (short, number) = (self.short.number(), self.number);
-        let mut text = String::new(alloc);
-        write!(text, "{HEAD}\n{short} {number}\n")?;
-        for name in self.names.iter() {
-            write!(text, "{name}\n")?;
-        }
+        let mut text = format!(in alloc; "{HEAD}\n{short} {number}\n")?;
+        put_lines(&mut text, &self.names)?;
         Ok(text)
     }
 
