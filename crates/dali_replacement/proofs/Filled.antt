@@ -1,9 +1,9 @@
-use Rattle.std.proofs.Common.{◌≡◌, ◌≢◌, ℕ, inl, inr, List, [], ◌∷◌, ◌++◌, Result, Ok, Err, OnOk, sym, subst}
+use Rattle.std.proofs.Common.{◌≡◌, ◌≢◌, ◌⊎◌, ℕ, inl, inr, refl, List, [], ◌∷◌, ◌++◌, Result, Ok, Err, OnOk, sym, subst}
 use Rattle.dali_script.specs.declared.records.Record.TheVariants.{Reserve, Enrol}
 use Rattle.dali_script.specs.Records.{Kept, Assignment, Has, HasAddress, with_record}
-use Rattle.dali_script.proofs.Lists.{has_last, has_before}
+use Rattle.dali_script.proofs.Lists.{has_last, has_before, has_cases}
 use Rattle.dali_replacement.proofs.Every.{enrolled_has, enrolled_keeps, kept_are_short}
-use Rattle.dali_replacement.specs.Tables.{HasAll, Keeps, KeepsReserved, Lacks, Reserves}
+use Rattle.dali_replacement.specs.Tables.{HasAll, Keeps, KeepsReserved, Lacks, Reserves, IsOf, IsOfOne, AreOf}
 
 -- ONE GEAR MORE, and the address of no other
 no_more : (xs : List Assignment) (a r b : ℕ) → (a ≢ b) → (HasAddress xs b → ⊥) → HasAddress (xs ++ (a, r) ∷ []) b → ⊥
@@ -48,7 +48,38 @@ reserves_more p ps table k l first keeps rest q (inl is) here =
     keeps q (subst (λ x. Has k.reserved x) is (first (subst (λ x. Has table.enrolled x) (sym is) here)))
 reserves_more p ps table k l first keeps rest q (inr has) here = rest q has here
 
+-- NOTHING ELSE IS ADDED
+pub of_itself : (xs ys : List Assignment) → IsOf xs xs ys
+of_itself xs ys p has = inl has
+
+pub enrolled_of : (k : Kept) (a r : ℕ) → IsOf (with_record k (Enrol a r)).enrolled k.enrolled ((a, r) ∷ [])
+enrolled_of k a r p has = go (has_cases k.enrolled (a, r) p has) where
+  go : Has k.enrolled p ⊎ ◌≡◌ {A = Assignment} (a, r) p → Has k.enrolled p ⊎ Has ((a, r) ∷ []) p
+  go (inl before) = inl before
+  go (inr same) = inr (inl same)
+
+pub of_more : (p : Assignment) (ps old mid new : List Assignment) → IsOf mid old (p ∷ []) → IsOf new mid ps → IsOf new old (p ∷ ps)
+of_more p ps old mid new first rest q has = go (rest q has) where
+  first_of : Has old q ⊎ Has (p ∷ []) q → Has old q ⊎ Has (p ∷ ps) q
+  first_of (inl before) = inl before
+  first_of (inr (inl same)) = inr (inl same)
+  first_of (inr (inr none)) = elim none [ ]
+
+  go : Has mid q ⊎ Has ps q → Has old q ⊎ Has (p ∷ ps) q
+  go (inl before) = first_of (first q before)
+  go (inr later) = inr (inr later)
+
+pub of_more_tables : (k : Kept) (ks : List Kept) (old mid new : List Assignment) → IsOf mid old k.enrolled → AreOf new mid ks → AreOf new old (k ∷ ks)
+of_more_tables k ks old mid new first rest q has = go (rest q has) where
+  first_of : Has old q ⊎ Has k.enrolled q → Has old q ⊎ IsOfOne (k ∷ ks) q
+  first_of (inl before) = inl before
+  first_of (inr here) = inr (k, inl refl, here)
+
+  go : Has mid q ⊎ IsOfOne ks q → Has old q ⊎ IsOfOne (k ∷ ks) q
+  go (inl before) = first_of (first q before)
+  go (inr (l, among, here)) = inr (l, inr among, here)
+
 -- what one enrolment does, and how records are filled
-pub ruleset enrolling = (enrolled_has, enrolled_keeps, enrolled_spares)
+pub ruleset enrolling = (enrolled_has, enrolled_keeps, enrolled_spares, enrolled_of, of_itself)
 
 pub ruleset filling = (kept_are_short, keeps_itself)

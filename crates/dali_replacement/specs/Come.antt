@@ -5,6 +5,8 @@ use Rattle.dali_script.specs.Records.{Kept, Assignment, is_pair}
 use Rattle.dali_commissioning.specs.declared.census.Reply.{Reply}
 use Rattle.dali_commissioning.specs.declared.census.Reply.TheVariants as reply
 use Rattle.dali_commissioning.specs.Places.{random_at}
+use Rattle.dali_replacement.specs.declared.refusal.ReplaceRefusal.{ReplaceRefusal}
+use Rattle.dali_replacement.specs.declared.refusal.ReplaceRefusal.TheVariants as refusals
 use Rattle.dali_replacement.specs.declared.come.Come.{Come}
 use Rattle.dali_replacement.specs.declared.come.Come.TheVariants.{Nowhere, Reserved, Given}
 
@@ -74,3 +76,17 @@ abbrev pub may_be_heard : Come → Reply → Bool
 may_be_heard Nowhere heard = is_silent heard
 may_be_heard (Reserved r) heard = is_silent heard || is_random r heard
 may_be_heard (Given r) heard = is_random r heard
+
+-- WHY A LUMINAIRE IS NOT REPLACED, if this is heard and may not be: the address answers although
+-- nothing was given yet; else by what is heard in place of the new gear
+abbrev pub refusal_of : Reply → ReplaceRefusal
+refusal_of reply.Silence = refusals.NewSilent
+refusal_of reply.Noise = refusals.SeveralAnswer
+refusal_of reply.Unclear = refusals.SeveralAnswer
+refusal_of (reply.Random n) = refusals.AnotherAnswers
+refusal_of reply.Several = refusals.SeveralAnswer
+
+abbrev pub refusal : Come → Reply → ReplaceRefusal
+refusal Nowhere heard = refusals.Answered
+refusal (Reserved r) heard = refusal_of heard
+refusal (Given r) heard = refusal_of heard

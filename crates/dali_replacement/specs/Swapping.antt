@@ -1,4 +1,4 @@
-use Rattle.std.specs.Prelude.{ℕ, List}
+use Rattle.std.specs.Prelude.{ℕ, List, [], ◌∷◌, ◌++◌, codes, decimal, map, string_bytes}
 use Rattle.std.specs.declared.alloc.Global.{Global}
 use Rattle.std.specs.declared.string.String.{String}
 use Rattle.dali_replacement.specs.declared.swapping.Swap.{Swap}
@@ -13,3 +13,26 @@ number_of s = s.number
 
 abbrev pub names_of : Swap → List (String Global)
 names_of s = s.names.items
+
+-- the names, each by its bytes
+abbrev pub texts_of : Swap → List (List ℕ)
+texts_of s = map string_bytes (names_of s)
+
+-- THE TEXT OF A JOURNAL: its first line; the short address and the number, with a space between
+-- them; and each name; each on a line of its own
+abbrev pub newline : List ℕ
+newline = 10 ∷ []
+
+abbrev pub lines_of : List (List ℕ) → List ℕ
+lines_of [] = []
+lines_of (line ∷ more) = line ++ newline ++ lines_of more
+
+abbrev pub first_line : List ℕ
+first_line =
+    codes "dali_commission: a replacement is not finished; call ./dali_commission replace again"
+
+abbrev pub numbers_line : ℕ → ℕ → List ℕ
+numbers_line a n = decimal a ++ codes " " ++ decimal n
+
+abbrev pub swap_text : Swap → List ℕ
+swap_text s = lines_of (first_line ∷ numbers_line (address_of s) (number_of s) ∷ texts_of s)

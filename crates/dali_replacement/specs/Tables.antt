@@ -1,4 +1,5 @@
-use Rattle.std.specs.Prelude.{◌≡◌, ◌≢◌, ℕ, ◌+◌, ◌<◌, ◌==◌, Bool, true, false, List, [], ◌∷◌, length}
+use Rattle.std.specs.Prelude.{◌≡◌, ◌≢◌, ◌⊎◌, ℕ, ◌+◌, ◌<◌, ◌==◌, Bool, true, false}
+use Rattle.std.specs.Prelude.{List, [], ◌∷◌, length}
 use Rattle.std.specs.List.{list_any}
 use Rattle.dali_script.specs.Records.{Kept, Assignment, Has, HasAddress, HasRandom}
 use Rattle.dali_replacement.specs.declared.tables.Giver.{Giver}
@@ -47,6 +48,17 @@ KeepsReserved old new = (p : Assignment) → Has old.reserved p → Has new.rese
 -- pairs are reserved, as far as a table has them
 abbrev pub Reserves : List Assignment → Kept → Kept → Type 0
 Reserves xs table k = (p : Assignment) → Has xs p → Has table.enrolled p → Has k.reserved p
+
+-- each pair of a list stands in an earlier one, or in a third; and a pair is of one of several
+-- tables; and so each of a table is of an earlier one, or of one of several
+abbrev pub IsOf : List Assignment → List Assignment → List Assignment → Type 0
+IsOf new old xs = (p : Assignment) → Has new p → Has old p ⊎ Has xs p
+
+abbrev pub IsOfOne : List Kept → Assignment → Type 0
+IsOfOne ks p = (k : Kept) × Has ks k × Has k.enrolled p
+
+abbrev pub AreOf : List Assignment → List Assignment → List Kept → Type 0
+AreOf new old ks = (p : Assignment) → Has new p → Has old p ⊎ IsOfOne ks p
 
 -- no gear has the address; so it stays for each address but that of a pair
 abbrev pub Lacks : ℕ → Kept → Type 0

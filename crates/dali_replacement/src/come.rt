@@ -6,7 +6,7 @@ ghost use Rattle.std.specs.List.{list_any};
 ghost use Rattle.dali_script.specs.Records.{is_pair};
 ghost use Rattle.dali_replacement.specs.Come.{is_foreign, has_foreign, has_other, has_random, giver_come, other_come};
 ghost use Rattle.dali_replacement.specs.Come.{may_go_on, come_of};
-ghost use Rattle.dali_replacement.specs.Come.{going_on, is_silent, is_random, may_be_heard};
+ghost use Rattle.dali_replacement.specs.Come.{going_on, is_silent, is_random, may_be_heard, refusal_of, refusal};
 
 use crate::refusal::ReplaceRefusal;
 use dali_commissioning::{Reply, random_at};
@@ -138,7 +138,9 @@ fn is_random(random: Random24, reply: &Reply) -> bool
 }
 
 /// Why a luminaire is not replaced if this is heard in place of the new one.
-pub(crate) fn refusal_of(reply: Reply) -> ReplaceRefusal {
+pub(crate) fn refusal_of(reply: Reply) -> ReplaceRefusal
+    ensures { result ≡ refusal_of reply }
+{
     match reply {
         Reply::Silence => ReplaceRefusal::NewSilent,
         Reply::Random(_) => ReplaceRefusal::AnotherAnswers,
@@ -190,7 +192,9 @@ impl Come {
     }
 
     /// Why a luminaire is not replaced if this is heard, and may not be.
-    pub fn refusal(&self, reply: Reply) -> ReplaceRefusal {
+    pub fn refusal(&self, reply: Reply) -> ReplaceRefusal
+        ensures { result ≡ refusal self.now reply }
+    {
         match *self {
             Come::Nowhere => ReplaceRefusal::Answered,
             Come::Reserved(_) | Come::Given(_) => refusal_of(reply),

@@ -1,9 +1,9 @@
 //! What the tables of a site have, gathered into one, and filled into other records.
 
-ghost use Rattle.std.specs.Prelude.{◌≡◌, ◌≢◌, ◌<◌, IfOk, OnOk};
+ghost use Rattle.std.specs.Prelude.{◌≡◌, ◌≢◌, ◌<◌, [], ◌∷◌, IfOk, OnOk};
 ghost use Rattle.dali_script.specs.Records.{Has};
 ghost use Rattle.dali_replacement.specs.Tables.{AreShort, HasAllBut, HasAll, Keeps, KeepsReserved, Lacks, Spares};
-ghost use Rattle.dali_replacement.specs.Tables.{IsGathered, Reserves};
+ghost use Rattle.dali_replacement.specs.Tables.{IsGathered, Reserves, IsOf, AreOf};
 
 use crate::tables::has;
 use dali_frame::Short;
@@ -15,7 +15,9 @@ use dali_script::{Block, Kept, Pair, Record};
 #[tactic(auto, using(crate::proofs::Filled::enrolling))]
 fn add(all: &mut Kept, address: Short, pair: Pair) -> Result<(), Short>
     requires { address ≡ pair.0 }
-    ensures { OnOk result (Has all.new.enrolled pair × Keeps all.old all.new × Spares pair all.old all.new) }
+    ensures has { OnOk result (Has all.new.enrolled pair × Keeps all.old all.new × Spares pair all.old all.new) }
+    ensures of { OnOk result (IsOf all.new.enrolled all.old.enrolled (pair ∷ [])) }
+    ensures same { OnOk result (all.new.reserved ≡ all.old.reserved) }
 {
     let record = Record::Enrol(address, pair.random());
     if all.shows(&record) {
@@ -34,6 +36,8 @@ fn add_other(all: &mut Kept, pair: Pair, number: u8) -> Result<(), Short>
     ensures has { OnOk result (pair.0 ≢ number → Has all.new.enrolled pair) }
     ensures keeps { OnOk result (Keeps all.old all.new) }
     ensures lacks { OnOk result (Lacks number all.old → Lacks number all.new) }
+    ensures of { OnOk result (IsOf all.new.enrolled all.old.enrolled (pair ∷ [])) }
+    ensures same { OnOk result (all.new.reserved ≡ all.old.reserved) }
 {
     let Some(address) = Short::of(pair.address()) else {
         // It is required that the address is below 64.
@@ -47,12 +51,14 @@ fn add_other(all: &mut Kept, pair: Pair, number: u8) -> Result<(), Short>
 }
 
 /// Adds all gear of a list to a table so, but the one with this short address.
-#[tactic(auto, using(crate::proofs::Every::all_but_more))]
+#[tactic(auto, using(crate::proofs::Every::all_but_more, crate::proofs::Filled::of_more))]
 fn add_all(all: &mut Kept, pairs: &[Pair], number: u8) -> Result<(), Short>
     requires { AreShort pairs.now }
     ensures all { OnOk result (HasAllBut number pairs.now all.new) }
     ensures keeps { OnOk result (Keeps all.old all.new) }
     ensures lacks { OnOk result (Lacks number all.old → Lacks number all.new) }
+    ensures of { OnOk result (IsOf all.new.enrolled all.old.enrolled pairs.now) }
+    ensures same { OnOk result (all.new.reserved ≡ all.old.reserved) }
 {
     let [pair, more @ ..] = pairs else {
         return Ok(());
@@ -62,11 +68,13 @@ fn add_all(all: &mut Kept, pairs: &[Pair], number: u8) -> Result<(), Short>
 }
 
 /// Adds all gear of tables to another one so, but the one with this short address.
-#[tactic(auto, using(crate::proofs::Every::kept_are_short))]
+#[tactic(auto, using(crate::proofs::Every::kept_are_short, crate::proofs::Filled::of_more_tables))]
 fn gather(all: &mut Kept, tables: &[Kept], number: u8) -> Result<(), Short>
     ensures all { OnOk result (IsGathered number tables.now all.new) }
     ensures keeps { OnOk result (Keeps all.old all.new) }
     ensures lacks { OnOk result (Lacks number all.old → Lacks number all.new) }
+    ensures of { OnOk result (AreOf all.new.enrolled all.old.enrolled tables.now) }
+    ensures same { OnOk result (all.new.reserved ≡ all.old.reserved) }
 {
     let [table, more @ ..] = tables else {
         return Ok(());
@@ -80,6 +88,8 @@ fn gather(all: &mut Kept, tables: &[Kept], number: u8) -> Result<(), Short>
 pub fn gathered(tables: &[Kept], short: Short) -> Result<Kept, Short>
     ensures all { IfOk result (λ all. IsGathered short tables.now all) }
     ensures without { IfOk result (λ all. Lacks short all) }
+    ensures of { IfOk result (λ all. AreOf all.enrolled [] tables.now) }
+    ensures none { IfOk result (λ all. all.reserved ≡ []) }
 {
     let mut all = Kept::new(Block::ALL);
     gather(&mut all, tables, short.number())?;
@@ -88,7 +98,9 @@ pub fn gathered(tables: &[Kept], short: Short) -> Result<Kept, Short>
 
 /// A table of all gear that tables have; or the short address about which two of them disagree.
 pub fn gathered_whole(tables: &[Kept]) -> Result<Kept, Short>
-    ensures { IfOk result (λ all. IsGathered 64 tables.now all) }
+    ensures all { IfOk result (λ all. IsGathered 64 tables.now all) }
+    ensures of { IfOk result (λ all. AreOf all.enrolled [] tables.now) }
+    ensures none { IfOk result (λ all. all.reserved ≡ []) }
 {
     let mut all = Kept::new(Block::ALL);
     // No short address is this number.

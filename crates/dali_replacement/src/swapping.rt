@@ -1,10 +1,11 @@
 //! A swap of files of records, its journal, and the names of what lies beside a file.
 
-ghost use Rattle.std.specs.Prelude.{◌≡◌, ◌≤◌, ◌++◌, ◌↔◌, IsOk, IfOk, codes, decimal, length, min, string_bytes};
-ghost use Rattle.std.specs.Prelude.{vec_len};
+ghost use Rattle.std.specs.Prelude.{◌≡◌, ◌≤◌, ◌++◌, ◌↔◌, IsOk, IfOk, IfSome, OnOk, IsTrue, codes, decimal, length, min};
+ghost use Rattle.std.specs.Prelude.{map, string_bytes, vec_len};
+ghost use Rattle.dali_script.specs.Records.{Has};
 ghost use Rattle.dali_replacement.specs.Permit.{confirmed_at, confirmed_random, confirmed_table};
 ghost use Rattle.dali_replacement.specs.Tables.{IsComplete, IsGathered};
-ghost use Rattle.dali_replacement.specs.Swapping.{address_of, number_of, names_of};
+ghost use Rattle.dali_replacement.specs.Swapping.{address_of, number_of, names_of, texts_of, lines_of, swap_text};
 
 use crate::confirmed::Confirmed;
 use crate::refusal::ReplaceRefusal;
@@ -52,6 +53,33 @@ pub fn kept_of(alloc: Global, name: &str, number: u32) -> Result<String, AllocEr
     ensures { IfOk result (λ at. string_bytes at ≡ name.now ++ (codes ".before-" ++ decimal number)) }
 {
     format!(in alloc; "{name}.before-{number}")
+}
+
+fn is_text(other: &String, name: &str) -> bool
+    ensures { IsTrue result ↔ (string_bytes other.now ≡ name.now) }
+{
+    other.as_str() == name
+}
+
+/// Whether one of some names is this one.
+fn has_text(names: &[String], name: &str) -> bool
+    ensures { IsTrue result ↔ Has (map string_bytes names.now) name.now }
+{
+    match names {
+        [] => false,
+        [other, more @ ..] => is_text(other, name) || has_text(more, name),
+    }
+}
+
+/// Adds names to a text, each on a line of its own.
+fn put_lines(text: &mut String, names: &[String]) -> Result<(), AllocError>
+    ensures { OnOk result (string_bytes text.new ≡ string_bytes text.old ++ lines_of (map string_bytes names.now)) }
+{
+    let [name, more @ ..] = names else {
+        return Ok(());
+    };
+    write!(text, "{name}\n")?;
+    put_lines(text, more)
 }
 
 /// The names that stand on lines of their own.
@@ -135,29 +163,36 @@ impl Swap {
         &self.names
     }
 
-    /// The swap that a journal is of. None if it is none.
-    pub fn read(alloc: Global, text: &str) -> Result<Option<Swap>, AllocError> {
+    /// The swap that a journal is of, whose text is this one, byte by byte. None if it is none.
+    pub fn read(alloc: Global, text: &str) -> Result<Option<Swap>, AllocError>
+        ensures { IfOk result (λ read. IfSome read (λ swap. swap_text swap ≡ text.now)) }
+    {
         let Some((short, number, names)) = numbers_in(text) else {
             return Ok(None);
         };
-        match names_in(alloc, names)? {
-            Some(names) => Ok(Some(Swap {
-                short,
-                number,
-                names,
-            })),
-            None => Ok(None),
+        let Some(names) = names_in(alloc, names)? else {
+            return Ok(None);
+        };
+        let swap = Swap {
+            short,
+            number,
+            names,
+        };
+        let own = swap.text(alloc)?;
+        if own.as_str() == text {
+            Ok(Some(swap))
+        } else {
+            Ok(None)
         }
     }
 
     /// The text of its journal.
-    pub fn text(&self, alloc: Global) -> Result<String, AllocError> {
+    pub fn text(&self, alloc: Global) -> Result<String, AllocError>
+        ensures { IfOk result (λ text. string_bytes text ≡ swap_text self.now) }
+    {
         let (short, number) = (self.short.number(), self.number);
-        let mut text = String::new(alloc);
-        write!(text, "{HEAD}\n{short} {number}\n")?;
-        for name in self.names.iter() {
-            write!(text, "{name}\n")?;
-        }
+        let mut text = format!(in alloc; "{HEAD}\n{short} {number}\n")?;
+        put_lines(&mut text, &self.names)?;
         Ok(text)
     }
 
@@ -173,7 +208,9 @@ impl Swap {
     }
 
     /// Whether one of its files has this name.
-    pub fn has(&self, name: &str) -> bool {
-        self.names.iter().any(|other| other.as_str() == name)
+    pub fn has(&self, name: &str) -> bool
+        ensures { IsTrue result ↔ Has (texts_of self.now) name.now }
+    {
+        has_text(&self.names, name)
     }
 }
