@@ -1,6 +1,6 @@
 //! Files of records and journals in memory, for the program.
 
-use dali_commission_program::{Actor, Borrower, Failure, Holder, Seen, StoreFault, Stores};
+use dali_commission_program::{Actor, Failure, Holder, Seen, StoreFault, Stores};
 use dali_frame::{Random24, Short};
 use dali_reserve::{Keep, KeepError, MemoryKeep};
 use dali_script::{Block, Kept, Record};
@@ -171,38 +171,51 @@ impl Cabinet {
 }
 
 impl Stores for &Cabinet {
+    type Open = MemoryKeep;
+
+    type Copy = MemoryKeep;
+
     ghost made = { λ _ _ _. Unit {0} };
 
     ghost saw = { λ _ _. Unit {0} };
+
+    ghost opens = { λ _ _ _. Unit {0} };
 
     fn has(&self, name: &str) -> bool {
         self.place(name).is_some()
     }
 
-    fn lend<B: Borrower>(&mut self, seen: &Seen<'_>, borrower: B) -> Result<B::Out, Failure> {
-        let mut store = self.opened(seen.name(), seen.block())?;
-        let done = borrower.take(&mut store);
-        if let Ok(kept) = store.read() {
+    fn open(&mut self, seen: &Seen<'_>) -> Result<MemoryKeep, Failure> {
+        self.opened(seen.name(), seen.block())
+    }
+
+    fn close(&mut self, seen: &Seen<'_>, mut open: MemoryKeep) -> Result<(), Failure> {
+        if let Ok(kept) = open.read() {
             if let Ok(records) = records_of(self.alloc, &kept) {
                 self.put(seen.name(), Lying::Records(records));
             }
         }
-        done
+        Ok(())
     }
 
-    fn lend_copy<B: Borrower>(&self, name: &str, _: &str, borrower: B) -> Result<B::Out, Failure> {
-        borrower.take(&mut self.opened(name, Block::ALL)?)
+    fn why(&self, _: &Seen<'_>, failure: Failure) -> Failure {
+        failure
+    }
+
+    fn copy(&self, name: &str, _: &str) -> Result<MemoryKeep, Failure> {
+        self.opened(name, Block::ALL)
     }
 
     fn place_of(&self, alloc: Global, name: &str) -> Result<String, Failure> {
         String::from_str(alloc, name).map_err(|_| REFUSED)
     }
 
-    fn hold<H: Holder<Self>>(
+    fn hold<D, H: Holder<Self, D>>(
         &mut self,
         alloc: Global,
         names: &[String],
         mut holder: H,
+        beside: &mut D,
     ) -> Result<H::Out, Failure> {
         let mut all = Vec::new(alloc);
         for name in names {
@@ -214,7 +227,7 @@ impl Stores for &Cabinet {
                 return Err(REFUSED);
             }
         }
-        let due = holder.take(self, &all)?;
+        let due = holder.take(self, &all, beside)?;
         holder.then(self, due)
     }
 

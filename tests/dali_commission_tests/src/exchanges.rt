@@ -3,8 +3,8 @@
 
 use super::bus::Bus;
 use super::cabinet::Cabinet;
-use super::room::Room;
-use dali_commission_program::{Stores, run_and_say};
+use super::room::{Room, call};
+use dali_commission_program::Stores;
 use dali_console::Failed;
 use dali_frame::Short;
 use std::process::Abort;
@@ -21,7 +21,7 @@ pub fn ends_over<R: Abort + AllocGlobal>(
     said: &str,
 ) {
     let room = Room::new(rt.alloc(), words, bus);
-    let status = match run_and_say(&room, &mut cabinet, false) {
+    let status = match call(&room, &mut cabinet) {
         Ok(()) => 0,
         Err(failure) => failure.status(),
     };

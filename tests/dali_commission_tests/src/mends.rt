@@ -3,8 +3,7 @@
 use super::bus::Bus;
 use super::cabinet::Cabinet;
 use super::exchanges::ends_over;
-use super::room::Room;
-use dali_commission_program::run_and_say;
+use super::room::{Room, call};
 use dali_console::Failed;
 use dali_frame::Short;
 use std::process::Abort;
@@ -118,7 +117,7 @@ fn a_run_may_mend_at_its_end(rt: HostRuntime) {
     let (cabinet, bus) = (Cabinet::new(rt.alloc()), Bus::with(rt.alloc(), &THREE));
     let words = b"dali_commission run --mend --records site.db 0-63";
     let room = Room::new(rt.alloc(), words, &bus);
-    assert!(rt; run_and_say(&room, &mut &cabinet, false).is_ok());
+    assert!(rt; call(&room, &mut &cabinet).is_ok());
     assert!(rt; room.has_said("left alone\n1 gear were enrolled, 1 are in the table"));
     assert!(rt; room.has_said("5 654321 lost it, and has 0 now\n2 gear were enrolled, 3 are"));
     ends_over(
@@ -288,7 +287,7 @@ fn weak_answers_are_unclear(rt: HostRuntime) {
     let mut unclear = 0;
     for words in [CHECK, MEND, CHECK, FIVE, CHECK, RUN, CHECK] {
         let room = Room::new(rt.alloc(), words, &bus);
-        let status = match run_and_say(&room, &mut &cabinet, false) {
+        let status = match call(&room, &mut &cabinet) {
             Ok(()) => 0,
             Err(failure) => failure.status(),
         };
@@ -323,7 +322,7 @@ fn a_bus_that_fails_on_the_way_is_told(rt: HostRuntime) {
         let (cabinet, bus) = (Cabinet::new(rt.alloc()), Bus::with(rt.alloc(), &THREE));
         bus.fail(at);
         let room = Room::new(rt.alloc(), MEND, &bus);
-        let status = match run_and_say(&room, &mut &cabinet, false) {
+        let status = match call(&room, &mut &cabinet) {
             Ok(()) => 0,
             Err(failure) => failure.status(),
         };
@@ -340,7 +339,7 @@ fn twins_of_the_table_stay(rt: HostRuntime) {
     assert!(rt; cabinet.has_put("site.db", &[(2, 5, 0x123456)]));
     let words = b"dali_commission mend --records site.db 0-63";
     let room = Room::new(rt.alloc(), words, &bus);
-    assert!(rt; run_and_say(&room, &mut &cabinet, false).is_err());
+    assert!(rt; call(&room, &mut &cabinet).is_err());
     let said =
         "5 123456 several gear have this random address, or its answers are weak; left as it is\n\
         7 111111 one gear alone answers, and keeps it\n7 ABCDEF lost it, and has 0 now\n";

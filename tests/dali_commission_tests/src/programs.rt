@@ -1,7 +1,8 @@
 //! `dali_commission`, played whole by its command line.
 
+use super::room::call;
 use super::shelf::Shelf;
-use dali_commission_program::{StoreFault, run_and_say};
+use dali_commission_program::StoreFault;
 use dali_console::Failed;
 use dali_desk::Desk;
 use std::process::Abort;
@@ -18,7 +19,7 @@ fn ends<R: Abort + AllocGlobal>(
     end: End<'_>,
 ) {
     let desk = Desk::new(rt.alloc(), words, answers);
-    let status = match run_and_say(&desk, &mut shelf, false) {
+    let status = match call(&desk, &mut shelf) {
         Ok(()) => 0,
         Err(failure) => failure.status(),
     };
@@ -409,7 +410,7 @@ fn a_check_tells_of_gear_without_short_address(rt: HostRuntime) {
         assert!(rt; heard.push_str(asked).is_ok());
         ends(&rt, CHECK, &Shelf::of(&five), &heard, (1, frames, said));
         let desk = Desk::new(rt.alloc(), words, &heard);
-        assert!(rt; run_and_say(&desk, &mut &Shelf::of(&five), false).is_err());
+        assert!(rt; call(&desk, &mut &Shelf::of(&five)).is_err());
         let put =
             "put 3 A100 tell\nput 1 A5FF tell pair 1\nput 1 A5FF tell pair 2\nput 3 B1FF tell\nput 1 B5FF tell\n\
             put 1 B3FF tell\nput 1 A900 ask\nput 1 A900 ask\nput 1 A900 ask\nput 3 A100 tell\n\
@@ -439,7 +440,7 @@ fn what_a_check_found_is_an_object_of_json(rt: HostRuntime) {
     let heard = answers(&rt, first, 603);
     let records = [(1, 0, 0x123456), (2, 0, 0x123456), (2, 5, 0xABCDEF)];
     let desk = Desk::new(rt.alloc(), words, &heard);
-    assert!(rt; run_and_say(&desk, &mut &Shelf::of(&records), false).is_err());
+    assert!(rt; call(&desk, &mut &Shelf::of(&records)).is_err());
     assert!(rt;
         desk.has_written(
             "{\"end\":\"unclear\",\"status\":15,\"frames\":613,\"enrolled\":0,\"table\":[\
@@ -455,7 +456,7 @@ fn what_a_run_came_to_is_an_object_of_json(rt: HostRuntime) {
     let words = b"dali_commission run --records site.db --idle-passes 1 --json 0-63";
     let heard = answers_there(&rt, "byte 12\nbyte 34\nbyte 56\ndamaged\n", 409);
     let desk = Desk::new(rt.alloc(), words, &heard);
-    assert!(rt; run_and_say(&desk, &mut &Shelf::of(&[]), false).is_ok());
+    assert!(rt; call(&desk, &mut &Shelf::of(&[])).is_ok());
     assert!(rt;
         desk.has_written(
             "\"enrolled\":1,\"table\":[{\"address\":0,\"random\":\"123456\",\"given\":false}],\
@@ -465,7 +466,7 @@ fn what_a_run_came_to_is_an_object_of_json(rt: HostRuntime) {
     assert!(rt; desk.has_written("{\"end\":\"all-found\",\"status\":0,\"frames\":"));
     let refused = Desk::new(rt.alloc(), words, "");
     let shelf = Shelf::refused(StoreFault::Locked);
-    assert!(rt; run_and_say(&refused, &mut &shelf, false).is_err());
+    assert!(rt; call(&refused, &mut &shelf).is_err());
     assert!(rt;
         refused.has_written(
             "{\"end\":\"records\",\"status\":5,\"frames\":0,\"enrolled\":0,\"table\":[],"
@@ -491,7 +492,7 @@ fn a_table_has_what_is_enrolled(rt: HostRuntime) {
     ] {
         let desk = Desk::new(rt.alloc(), words, "");
         let shelf = Shelf::of(&FIVE);
-        assert!(rt; run_and_say(&desk, &mut &shelf, false).is_ok());
+        assert!(rt; call(&desk, &mut &shelf).is_ok());
         assert!(rt; desk.has_written(written));
         assert!(rt; shelf.enrolled() == Some(2));
     }
@@ -505,7 +506,7 @@ fn a_gear_shows_itself(rt: HostRuntime) {
     assert!(rt; heard.push_str("silence\nlapsed\nsilence\n").is_ok());
     // The driver ends while the gear is dark: the line that makes it bright is written all the same.
     let desk = Desk::new(rt.alloc(), words, &heard);
-    assert!(rt; run_and_say(&desk, &mut &Shelf::of(&[]), false).is_err());
+    assert!(rt; call(&desk, &mut &Shelf::of(&[])).is_err());
     assert!(rt;
         desk.has_written(
             "put 2 0AFE tell\nput 2 0A00 tell\nput 2 0A00 tell\nput 2 0AFE tell\nput 2 0AFE tell\n"
@@ -537,7 +538,7 @@ fn what_a_gear_showed_is_an_object_of_json(rt: HostRuntime) {
         ),
     ] {
         let desk = Desk::new(rt.alloc(), words, heard);
-        let _ = run_and_say(&desk, &mut &Shelf::of(&[]), false);
+        let _ = call(&desk, &mut &Shelf::of(&[]));
         assert!(rt; desk.has_written(text));
     }
 }

@@ -1,7 +1,7 @@
 //! `dali_commission replace`, by its command line: what it refuses, and how it goes on from each moment of a swap.
 
 use super::cabinet::Cabinet;
-use dali_commission_program::run_and_say;
+use super::room::call;
 use dali_console::Failed;
 use dali_desk::Desk;
 use std::process::Abort;
@@ -34,7 +34,7 @@ fn ends<R: Abort + AllocGlobal>(
     said: &str,
 ) {
     let desk = Desk::new(rt.alloc(), words, answers);
-    let status = match run_and_say(&desk, &mut cabinet, false) {
+    let status = match call(&desk, &mut cabinet) {
         Ok(()) => 0,
         Err(failure) => failure.status(),
     };
@@ -482,7 +482,7 @@ fn what_a_replacement_came_to_is_an_object_of_json(rt: HostRuntime) {
     let words = b"dali_commission replace 5 --records site.db --records two.db --json";
     let there = all_there(&rt);
     let finished = Desk::new(rt.alloc(), words, there.as_str());
-    assert!(rt; run_and_say(&finished, &mut &at(&rt, 4), false).is_ok());
+    assert!(rt; call(&finished, &mut &at(&rt, 4)).is_ok());
     assert!(rt;
         finished.has_written(
             "{\"end\":\"replaced\",\"status\":0,\"frames\":27,\"enrolled\":0,\"table\":[\
@@ -492,7 +492,7 @@ fn what_a_replacement_came_to_is_an_object_of_json(rt: HostRuntime) {
     );
     let gone = silence(&rt, "", 9);
     let unheard = Desk::new(rt.alloc(), words, gone.as_str());
-    assert!(rt; run_and_say(&unheard, &mut &at(&rt, 4), false).is_err());
+    assert!(rt; call(&unheard, &mut &at(&rt, 4)).is_err());
     assert!(rt;
         unheard.has_written(
             "{\"end\":\"not-confirmed\",\"status\":11,\"frames\":9,\"enrolled\":0,\"table\":[],"
@@ -526,7 +526,7 @@ fn what_a_replacement_came_to_is_an_object_of_json(rt: HostRuntime) {
         ),
     ] {
         let refused = Desk::new(rt.alloc(), words, heard);
-        assert!(rt; run_and_say(&refused, &mut &two(&rt), false).is_err());
+        assert!(rt; call(&refused, &mut &two(&rt)).is_err());
         assert!(rt; refused.has_written(text));
     }
 }

@@ -1,6 +1,7 @@
-//! A system whose driver is a bus of gear in memory.
+//! A system whose driver is a bus of gear in memory, and how the program is called on a system.
 
 use super::bus::{Bus, Put, Told};
+use dali_commission_program::{DriverLink, Failure, Stores, run_and_say};
 use std::alloc::{Alloc, Allocator, Global};
 use std::cell::RefCell;
 use std::env::{Env, FillError};
@@ -8,6 +9,16 @@ use std::fmt::Display;
 use std::io::{BufRead, Eprint, ErrorKind, Lines, Write};
 use std::time::{Clock, Duration};
 use std::{io, str};
+
+/// Calls the program on a system, with these places. Its driver is the system's input and output.
+pub fn call<S, F>(system: &S, stores: &mut F) -> Result<(), Failure>
+where
+    S: Env + Input + Print + Eprint + AllocGlobal + Clock,
+    F: Stores,
+{
+    let mut driver = DriverLink::new(system.alloc(), system.reader(), io::writer(system));
+    run_and_say(system, stores, &mut driver, false)
+}
 
 /// A system with a command line and a bus, which keeps what is said. Its clock stands still.
 #[derive(Drop)]

@@ -1,6 +1,6 @@
 //! Records in memory under a name, for the program.
 
-use dali_commission_program::{Actor, Borrower, Failure, Holder, Seen, StoreFault, Stores};
+use dali_commission_program::{Actor, Failure, Holder, Seen, StoreFault, Stores};
 use dali_frame::{Random24, Short};
 use dali_reserve::{Keep, KeepError, MemoryKeep};
 use dali_script::{Block, Record};
@@ -8,7 +8,7 @@ use std::alloc::Global;
 use std::cell::RefCell;
 
 /// The records `site.db`, which hold these when they are opened; or why they cannot be opened. How many gear were
-/// enrolled when they were closed last.
+/// enrolled when they were closed or copied last.
 #[derive(Drop)]
 pub struct Shelf<'a> {
     pub records: &'a [(u8, u8, u32)],
@@ -35,7 +35,7 @@ impl<'a> Shelf<'a> {
         }
     }
 
-    /// How many gear were enrolled when it was closed.
+    /// How many gear were enrolled when it was closed or copied.
     pub fn enrolled(&self) -> Option<usize> {
         match self.enrolled.try_borrow() {
             Ok(enrolled) => Some(*enrolled),
@@ -69,21 +69,17 @@ fn store_of(records: &[(u8, u8, u32)], block: Block) -> Option<MemoryKeep> {
 }
 
 impl Shelf<'_> {
-    /// Lends them to a controller with this block.
-    fn opened<B: Borrower>(&self, block: Block, borrower: B) -> Result<B::Out, Failure> {
-        if let Some(fault) = self.fault {
-            return Err(Failure::Store(fault));
+    /// Opens them for a controller with this block.
+    fn opened(&self, block: Block) -> Result<MemoryKeep, Failure> {
+        match (self.fault, store_of(self.records, block)) {
+            (Some(fault), _) => Err(Failure::Store(fault)),
+            (None, Some(store)) => Ok(store),
+            (None, None) => Err(Failure::Store(StoreFault::Store(KeepError::BadStore))),
         }
-        let Some(mut store) = store_of(self.records, block) else {
-            return Err(Failure::Store(StoreFault::Store(KeepError::BadStore)));
-        };
-        let done = borrower.take(&mut store);
-        self.close(&mut store);
-        done
     }
 
     /// Notes how many gear are enrolled.
-    fn close(&self, store: &mut MemoryKeep) {
+    fn note(&self, store: &mut MemoryKeep) {
         if let (Ok(kept), Ok(mut enrolled)) = (store.read(), self.enrolled.try_borrow_mut()) {
             *enrolled = kept.enrolled().len();
         }
@@ -91,20 +87,37 @@ impl Shelf<'_> {
 }
 
 impl Stores for &Shelf<'_> {
+    type Open = MemoryKeep;
+
+    type Copy = MemoryKeep;
+
     ghost made = { λ _ _ _. Unit {0} };
 
     ghost saw = { λ _ _. Unit {0} };
+
+    ghost opens = { λ _ _ _. Unit {0} };
 
     fn has(&self, name: &str) -> bool {
         name == "site.db"
     }
 
-    fn lend<B: Borrower>(&mut self, seen: &Seen<'_>, borrower: B) -> Result<B::Out, Failure> {
-        self.opened(seen.block(), borrower)
+    fn open(&mut self, seen: &Seen<'_>) -> Result<MemoryKeep, Failure> {
+        self.opened(seen.block())
     }
 
-    fn lend_copy<B: Borrower>(&self, _: &str, _: &str, borrower: B) -> Result<B::Out, Failure> {
-        self.opened(Block::ALL, borrower)
+    fn close(&mut self, _: &Seen<'_>, mut open: MemoryKeep) -> Result<(), Failure> {
+        self.note(&mut open);
+        Ok(())
+    }
+
+    fn why(&self, _: &Seen<'_>, failure: Failure) -> Failure {
+        failure
+    }
+
+    fn copy(&self, _: &str, _: &str) -> Result<MemoryKeep, Failure> {
+        let mut store = self.opened(Block::ALL)?;
+        self.note(&mut store);
+        Ok(store)
     }
 
     fn place_of(&self, alloc: Global, name: &str) -> Result<String, Failure> {
@@ -113,7 +126,13 @@ impl Stores for &Shelf<'_> {
 
     // Nothing is replaced here.
 
-    fn hold<H: Holder<Self>>(&mut self, _: Global, _: &[String], _: H) -> Result<H::Out, Failure> {
+    fn hold<D, H: Holder<Self, D>>(
+        &mut self,
+        _: Global,
+        _: &[String],
+        _: H,
+        _: &mut D,
+    ) -> Result<H::Out, Failure> {
         Err(NONE)
     }
 
