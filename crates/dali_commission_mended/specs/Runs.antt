@@ -1,4 +1,4 @@
-use Rattle.std.specs.Prelude.{◌≡◌, ◌⊎◌, ℕ, List, Result, Ok, Err, IsErr}
+use Rattle.std.specs.Prelude.{◌≡◌, ◌⊎◌, ℕ, List, Result, Ok, Err}
 use Rattle.dali_script.specs.declared.block.Block.{Block}
 use Rattle.dali_script.specs.declared.orders.End.TheVariants.{AllFound}
 use Rattle.dali_script.specs.declared.orders.Input.TheVariants.{Survey}
@@ -21,7 +21,7 @@ use Rattle.dali_commission_tasks.specs.declared.tasks.Start.{Start}
 use Rattle.dali_commission_tasks.specs.declared.tasks.Start.TheVariants as start
 use Rattle.dali_commission_asked.specs.Ending.{HasAskedAtLast, pass_at_last}
 use Rattle.dali_commission_asked.specs.declared.ending.AtLast.{AtLast}
-use Rattle.dali_commission_said.specs.Failures.{ended_as}
+use Rattle.dali_commission_said.specs.Failures.{ended_as, failure_of}
 use Rattle.dali_commission_said.specs.Reports.{addressed_said, RunSaid}
 use Rattle.dali_commission_asked.specs.Sharing.{left_open}
 
@@ -57,7 +57,10 @@ EndsSo is_up is_sound holds block pass before aim was keep x y lines ended =
     × RunSaid (pass_at_last pass last) before after aim frames lines
 
 -- WHAT A RUN COMES TO that began so: gear that no record names are said, and nothing else is done
--- beside them; else it ends as its last machine, or, if that cannot be told, without success
+-- beside them; else it ends as its last machine, or stops for a fault
+abbrev pub IsStopped : Result (Unit {0}) Failure → Type 0
+IsStopped ended = (fault : CommissionFault) × (line : ℕ) × (ended ≡ Err (failure_of fault line))
+
 abbrev pub ComesTo : {S : Type 0} (is_up is_sound : S → Type 0) (holds : S → List Record → Type 0)
     → Block → Kept → List Block → Result Begun CommissionFault → S → S → Talk → Talk → List Said
     → Result (Unit {0}) Failure → Type 0
@@ -69,7 +72,7 @@ ComesTo is_up is_sound holds block k others (Ok (begun.Addressed replies)) was k
     × (y ≡ x)
 ComesTo is_up is_sound holds block k others (Ok (begun.Commissioned pass)) was keep x y lines
     ended =
-    IsErr ended
+    IsStopped ended
     ⊎ ((aim : Aim)
     × EndsSo is_up is_sound holds block pass k aim was keep x y lines ended)
-ComesTo is_up is_sound holds block k others (Err fault) was keep x y lines ended = IsErr ended
+ComesTo is_up is_sound holds block k others (Err fault) was keep x y lines ended = IsStopped ended

@@ -1,9 +1,10 @@
 //! `run`: gear are given short addresses.
 
-ghost use Rattle.std.specs.Prelude.{◌≡◌, ◌↔◌, ◌+◌, ◌-◌, [], Err, IfOk, IsTrue, OnOk, length};
+ghost use Rattle.std.specs.Prelude.{◌≡◌, ◌↔◌, ◌+◌, ◌-◌, ℕ, Err, IfOk, IfErr, IsTrue, OnOk, length};
 ghost use Rattle.dali_commissioning.specs.Drivers.{talk_of};
 ghost use Rattle.dali_commission_said.specs.declared.failure.Failure.TheVariants.{Shared};
-ghost use Rattle.dali_commission_said.specs.Failures.{ended_as};
+ghost use Rattle.dali_commissioning.specs.declared.fault.CommissionFault.{CommissionFault};
+ghost use Rattle.dali_commission_said.specs.Failures.{ended_as, failure_of};
 ghost use Rattle.dali_commission_asked.specs.Ending.{pass_at_last};
 ghost use Rattle.dali_commission_asked.specs.Sharing.{left_open};
 ghost use Rattle.dali_commission_mended.specs.Runs.{HasBegun, EndsSo, ComesTo};
@@ -88,11 +89,18 @@ fn ended_so<K: Keep, R: Read, W: Write>(
     aim: Aim,
 ) -> Result<Came, Failure>
     ensures block { K.block store.new ≡ K.block store.old }
+    ensures stops { IfErr result (λ failure. (fault : CommissionFault) × (line : ℕ) × (failure ≡ failure_of fault
+        line)) }
     ensures ends { IfOk result (λ came. EndsSo K.is_up K.is_sound K.holds (K.block store.old) pass.now before.now aim
         store.old store.new (talk_of R.remaining W.contents driver.old) (talk_of R.remaining W.contents driver.new)
         came.report.said.items came.ended) }
 {
-    let after = kept(store)?;
+    let after = match store.read() {
+        Ok(after) => after,
+        Err(error) => {
+            return Err(failure_of(CommissionFault::Store(error), driver.lines()));
+        }
+    };
     let asked = ask_at_last(driver, pass, &after);
     let lines = driver.lines();
     match asked {
