@@ -3,7 +3,7 @@ use Rattle.std.specs.declared.{alloc.Global.Global, string.String.String}
 use Rattle.dali_script.specs.{declared.block.Block.Block, declared.records.Record.Record, Records.Kept}
 use Rattle.dali_commissioning.specs.{declared.driver.DriverLink.DriverLink, Drivers.{Talk, talk_of}, Runs.IsRead}
 use Rattle.dali_mending.specs.Mending.{Mending}
-use Rattle.dali_replacement.specs.Tables.{IsGathered}
+use Rattle.dali_replacement.specs.Tables.{IsGathered, AreOf}
 use Rattle.dali_commission_said.specs.declared.{failure.Failure.Failure, said.Said.Said}
 use Rattle.dali_commission_said.specs.declared.failure.Failure.TheVariants.{Shared}
 use Rattle.dali_commission_tasks.specs.declared.tasks.{Mend.Mend, Setup.Setup}
@@ -23,20 +23,21 @@ mends_well is_up is_sound holds kept_of block table before others wanted ms was 
 pub mended_well : {S : Type 0} (is_up is_sound : S → Type 0) (holds : S → List Record → Type 0) (kept_of : S → Kept) (block at : Block)
     (told : Said → Type 0) (others : List Block) (wanted : Mend) (tables : List Kept) (was opened mid keep : S) (x y : Talk) (before table after : Kept)
     (ms : List Mending) (of : Block) (ended result : Result (Unit {0}) Failure) → at ≡ block → IsRead is_up is_sound holds block was opened before
-    → IsGathered 64 (tables ++ before ∷ []) table
+    → IsGathered 64 (tables ++ before ∷ []) table → AreOf table.enrolled [] (tables ++ before ∷ [])
     → OnOk ended (MendsFrom is_up is_sound holds kept_of at table before others wanted ms opened mid x y (Ok tt))
     → IsRead is_up is_sound holds of mid keep after → AreMendsTold told ms → result ≡ ended
     → OnOk result (HasMended is_up is_sound holds kept_of block told others wanted tables was keep x y)
 mended_well is_up is_sound holds kept_of block at told others wanted tables was opened mid keep x y before table after ms of (Err e) result same reads
-    gathered mends last said is = rw is tt
+    gathered of_these mends last said is = rw is tt
 mended_well is_up is_sound holds kept_of block at told others wanted tables was opened mid keep x y before table after ms of (Ok done) result same reads
-    gathered mends last said is =
+    gathered of_these mends last said is =
     rw is (record {
       before = before;
       opened = opened;
       reads = reads;
       table = table;
       gathered = gathered;
+      of_these = of_these;
       ms = ms;
       mid = mid;
       mends = subst (λ b. MendsFrom is_up is_sound holds kept_of b table before others wanted ms opened mid x y (Ok tt)) same mends;

@@ -10,7 +10,7 @@ use Rattle.dali_commissioning.specs.declared.fault.CommissionFault.{CommissionFa
 use Rattle.dali_commissioning.specs.declared.driver.DriverLink.{DriverLink}
 use Rattle.dali_commissioning.specs.Drivers.{Talk, talk_of}
 use Rattle.dali_commissioning.specs.Runs.{IsRead}
-use Rattle.dali_replacement.specs.Tables.{IsGathered}
+use Rattle.dali_replacement.specs.Tables.{IsGathered, AreOf}
 use Rattle.dali_mending.specs.declared.course.Outcome.{Outcome}
 use Rattle.dali_mending.specs.Mending.{Mending, outcome_at}
 use Rattle.dali_commission_said.specs.declared.failure.Failure.{Failure}
@@ -63,6 +63,7 @@ pub record HasMended {S : Type 0} (is_up is_sound : S → Type 0)
   pub reads : IsRead is_up is_sound holds block was opened before
   pub table : Kept
   pub gathered : IsGathered 64 (tables ++ before ∷ []) table
+  pub of_these : AreOf table.enrolled [] (tables ++ before ∷ [])
   pub ms : List Mending
   pub mid : S
   pub mends : MendsFrom is_up is_sound holds kept_of block table before others wanted ms opened mid

@@ -1,3 +1,4 @@
 pub mod Done
+pub mod Nothing
 pub mod Object
 pub mod Written

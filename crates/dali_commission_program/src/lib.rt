@@ -1,6 +1,7 @@
 //! The program `dali_commission`: what it does and says.
 #![tactic(auto)]
 
+pub mod laws;
 mod object;
 mod program;
 mod writing;

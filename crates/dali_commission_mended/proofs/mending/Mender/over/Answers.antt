@@ -1,5 +1,5 @@
 use Rattle.std.proofs.Common.{◌∙◌, ap, subst, [], ◌∷◌, ◌++◌}
-use Rattle.dali_replacement.specs.Tables.{IsGathered}
+use Rattle.dali_replacement.specs.Tables.{IsGathered, AreOf}
 use Rattle.dali_commission_mended.specs.Tellings.{AreMendsTold}
 use Rattle.dali_commission_mended.proofs.Mended.{mended_well}
 use Rattle.dali_commission_mended.proofs.mending.Mender.over.Goals as goal
@@ -9,6 +9,8 @@ returns g c =
     mended_well _ _ _ _ _ (g.K.Keep.block c.kept.new.store) _ _ _ _ _ _ _ _ _ _ _ _ _ _ _ c.came_to_or_not-came.result.ended c.told.result
     c.in_ok-before.ensures.block c.in_ok-before.ensures.read
     (subst (λ ts. IsGathered 64 ts c.in-Ok.table)
-    (c.deref.ensures.value ∙ c.in_ok-add.ensures ∙ ap (λ k. c.args.self.tables.items ++ k ∷ []) c.copy.ensures) c.in-Ok.ensures)
+    (c.deref.ensures.value ∙ c.in_ok-add.ensures ∙ ap (λ k. c.args.self.tables.items ++ k ∷ []) c.copy.ensures) c.in-Ok.ensures.all)
+    (subst (λ ts. AreOf c.in-Ok.table.enrolled [] ts)
+    (c.deref.ensures.value ∙ c.in_ok-add.ensures ∙ ap (λ k. c.args.self.tables.items ++ k ∷ []) c.copy.ensures) c.in-Ok.ensures.of)
     c.came_to_or_not-came.ensures c.in_ok-kept.ensures.read
     (subst (AreMendsTold (g.S.Voice.told c.args.self.system.now)) c.deref-2.ensures.value c.say_mended.ensures) c.told.ensures.ended

@@ -1,0 +1,91 @@
+use Rattle.std.proofs.Common.{◌≡◌, ◌⊎◌, ℕ, ◌+◌, List, [], ◌∷◌, Option, Ok, Err, refl, sym, ap, inl, inr}
+use Rattle.std.{proofs.lemmas.Bool.false≢true, specs.declared.alloc.Global.Global, specs.declared.string.String.String}
+use Rattle.dali_script.specs.{Records.Kept, declared.block.Block.Block, declared.orders.Input.TheVariants.Survey, declared.records.Record.Record}
+use Rattle.dali_commissioning.specs.{Drivers.Talk, Drivers.talk_of, declared.census.Reply.Reply}
+use Rattle.dali_commissioning.specs.declared.census.Reply.TheVariants as heard
+use Rattle.dali_commissioning.specs.declared.driver.DriverLink.{DriverLink}
+use Rattle.dali_replacement.specs.declared.come.Come.{Come, TheVariants.Nowhere, TheVariants.Reserved, TheVariants.Given}
+use Rattle.dali_replacement.specs.Standing.{IsHeard, AreHeard}
+use Rattle.dali_commission_said.specs.declared.said.Said.{Said}
+use Rattle.dali_commission_tasks.specs.declared.tasks.Replacement.{Replacement}
+use Rattle.dali_commission_stores.specs.{Calls.Look, declared.records.Seen.Seen}
+use Rattle.dali_commission_replaced.specs.Asking.{HasAskedOthers, IsConfirmed, HasGivenSo, GivesFirst, HasReplaced}
+use Rattle.dali_commission_program.specs.Nothing.{IsNothingPut, HasLookedIn}
+use Rattle.dali_commission_program.proofs.Growing.{Grows, IsMore, stays, joined, more_then, grown, more_is_not_nothing}
+use Rattle.dali_commission_program.proofs.{Asking.answered_more, Ending.ok_err, Ending.at_last, Mended.runs_put}
+
+heard_one : (table : Kept) (a : ℕ) (r : Reply) (x y : Talk) → IsHeard table a r x y → Grows x y
+heard_one table a r x y (inl (none, is, same)) = stays x y same
+heard_one table a r x y (inr (some, answered)) = grown (answered_more a r x y answered)
+
+all_heard : (table : Kept) (a : ℕ) (replies : List Reply) (x y : Talk) → AreHeard table a replies x y → Grows x y
+all_heard table a [] x y same = stays x y same
+all_heard table a (r ∷ more) x y (mid, first, rest) = joined (heard_one table a r x mid first) (all_heard table (a + 1) more mid y rest)
+
+others_more : (a : ℕ) (come : Come) (table : Kept) (gone : List ℕ) (x y : Talk) → HasAskedOthers a come table gone x y → IsMore x y
+others_more a come table gone x y (reply, at, replies, answered, may, all, are, there) =
+    more_then (answered_more a reply x at answered) (all_heard table 0 replies at y are)
+
+confirmed_more : {F : Type 0} (saw : F → Look → Type 0) (told : Said → Type 0) (a : ℕ) (gone : List ℕ) (stores : F) (names : List (String Global))
+    (random : ℕ) (x y : Talk) → IsConfirmed saw told a gone stores names random x y → IsMore x y
+confirmed_more saw told a gone stores names random x y (tables, read, (table, given, at, gathered, others, answered), says) =
+    more_then (others_more a (Given given) table gone x at others) (grown (answered_more a (heard.Random random) at y answered))
+
+given_so : {S : Type 0} (is_up is_sound : S → Type 0) (holds : S → List Record → Type 0) (kept_of : S → Kept) (block : Block) (told : Said → Type 0)
+    (a : ℕ) (table : Kept) (keep : S) (x y : Talk) → HasGivenSo is_up is_sound holds kept_of block told a table keep x y → Grows x y
+given_so is_up is_sound holds kept_of block told a table keep x y it =
+    joined (runs_put is_up is_sound holds block Survey it.gave.filled it.mid x it.at it.gave.runs it.gave.ran)
+    (at_last it.pass it.after.enrolled it.last it.at y it.asked)
+
+-- the address is given, once a gear was looked for, or without that
+given_first : {F K R W : Type 0} (is_up is_sound : K → Type 0) (holds : K → List Record → Type 0) (kept_of : K → Kept) (block_of : K → Block)
+    (saw : F → Look → Type 0) (opens : F → Seen → K → Type 0) (remaining : R → Option (List ℕ)) (contents : W → Option (List ℕ))
+    (told : Said → Type 0) (a : ℕ) (come : Come) (table : Kept) (stores : F) (name : List ℕ) (x y : DriverLink R W)
+    → GivesFirst is_up is_sound holds kept_of block_of saw opens remaining contents told a come table stores name x y
+    → (come ≡ Nowhere) ⊎ Grows (talk_of remaining contents x) (talk_of remaining contents y)
+given_first is_up is_sound holds kept_of block_of saw opens remaining contents told a come table stores name x y (inl (r, is, same)) =
+    inr (stays _ _ (ap (λ d. talk_of remaining contents d) same))
+given_first is_up is_sound holds kept_of block_of saw opens remaining contents told a come table stores name x y
+    (inr (mid, looked, inl (err, same))) = absurd (false≢true err)
+given_first is_up is_sound holds kept_of block_of saw opens remaining contents told a come table stores name x y
+    (inr (mid, looked, inr (from, to, Err failure, open_so, came, well))) = absurd (ok_err failure (sym well))
+given_first is_up is_sound holds kept_of block_of saw opens remaining contents told a Nowhere table stores name x y
+    (inr (mid, looked, inr (from, to, Ok done, open_so, came, well))) = inl refl
+given_first is_up is_sound holds kept_of block_of saw opens remaining contents told a (Reserved r) table stores name x y
+    (inr (mid, looked, inr (from, to, Ok done, open_so, came, well))) =
+    inr (joined (stays (talk_of remaining contents x) (talk_of remaining contents mid) looked)
+    (given_so is_up is_sound holds kept_of (block_of from) told a table to (talk_of remaining contents mid) (talk_of remaining contents y) came))
+given_first is_up is_sound holds kept_of block_of saw opens remaining contents told a (Given r) table stores name x y
+    (inr (mid, looked, inr (from, to, Ok done, open_so, came, well))) =
+    inr (joined (stays (talk_of remaining contents x) (talk_of remaining contents mid) looked)
+    (given_so is_up is_sound holds kept_of (block_of from) told a table to (talk_of remaining contents mid) (talk_of remaining contents y) came))
+
+looked_or_more : (come : Come) (x before after y : Talk) → IsMore x before → (come ≡ Nowhere) ⊎ Grows before after → IsMore after y
+    → (come ≡ Nowhere) ⊎ IsMore x y
+looked_or_more come x before after y first (inl is) last = inl is
+looked_or_more come x before after y first (inr given) last = inr (more_then (more_then first given) (grown last))
+
+nothing_looked : (come : Come) (x y : Talk) → IsNothingPut x y → (come ≡ Nowhere) ⊎ IsMore x y → come ≡ Nowhere
+nothing_looked come x y nothing (inl is) = is
+nothing_looked come x y nothing (inr more) = absurd (more_is_not_nothing x y more nothing)
+
+pub replaced : {F K R W : Type 0} (is_up is_sound : K → Type 0) (holds : K → List Record → Type 0) (kept_of : K → Kept) (block_of : K → Block)
+    (saw : F → Look → Type 0) (opens : F → Seen → K → Type 0) (remaining : R → Option (List ℕ)) (contents : W → Option (List ℕ))
+    (told : Said → Type 0) (wanted : Replacement) (random : ℕ) (x y : DriverLink R W)
+    → HasReplaced is_up is_sound holds kept_of block_of saw opens remaining contents told wanted random x y
+    → IsNothingPut (talk_of remaining contents x) (talk_of remaining contents y)
+    → HasLookedIn is_up is_sound holds kept_of block_of saw opens remaining contents told wanted random x y
+replaced is_up is_sound holds kept_of block_of saw opens remaining contents told wanted random x y (inl (stores, names, is)) nothing =
+    absurd (more_is_not_nothing _ _ (confirmed_more saw told wanted.short wanted.missing.items stores names random
+    (talk_of remaining contents x) (talk_of remaining contents y) is) nothing)
+replaced is_up is_sound holds kept_of block_of saw opens remaining contents told wanted random x y (inr (names, all, news, it, says)) nothing = (
+  names,
+  all,
+  it,
+  nothing_looked it.come (talk_of remaining contents x) (talk_of remaining contents y) nothing
+      (looked_or_more it.come _ (talk_of remaining contents it.before) (talk_of remaining contents it.after) _
+      (others_more wanted.short it.come it.table wanted.missing.items _ _ it.others)
+      (given_first is_up is_sound holds kept_of block_of saw opens remaining contents told wanted.short it.come it.table it.stores it.name it.before
+      it.after it.first)
+      (answered_more wanted.short (heard.Random random) _ _ it.last)),
+)
