@@ -1,8 +1,8 @@
-use Rattle.std.proofs.Common.{◌≡◌, ℕ, List, Option, Some, Result, Bool, subst, sym}
+use Rattle.std.proofs.Common.{◌≡◌, ℕ, List, Option, Some, Result, subst, sym}
 use Rattle.std.specs.Prelude.{MatchOption, option_map, slice_get, string_bytes}
 use Rattle.std.specs.declared.{alloc.Global.Global, string.String.String}
 use Rattle.dali_script.specs.{declared.block.Block.Block, declared.records.Record.Record, Records.Kept}
-use Rattle.dali_commissioning.specs.{declared.driver.DriverLink.DriverLink, Drivers.{talk_of, has_heard, lines_of, Talk}}
+use Rattle.dali_commissioning.specs.{declared.driver.DriverLink.DriverLink, Drivers.{talk_of, has_heard, lines_of}}
 use Rattle.dali_commission_said.specs.{declared.failure.Failure.Failure, declared.said.Said.Said, Tables.only}
 use Rattle.dali_commission_tasks.specs.declared.tasks.{Setup.Setup, Task.{Task, TheVariants.{Run, Check}}}
 use Rattle.dali_commission_stores.specs.{Calls.{Call, Look}, declared.records.Seen.Seen, Lent.{IsLent, IsOpened}}

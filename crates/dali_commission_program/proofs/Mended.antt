@@ -1,4 +1,4 @@
-use Rattle.std.proofs.Common.{◌≡◌, ◌∙◌, ℕ, ◌+◌, ◌++◌, List, [], ◌∷◌, Bool, false, Option, Some, None, Result, Ok, Err, sym, inl, inr}
+use Rattle.std.proofs.Common.{◌≡◌, ◌∙◌, ℕ, ◌+◌, ◌++◌, List, [], ◌∷◌, Bool, Option, Some, None, Result, Ok, Err, sym, inl, inr}
 use Rattle.std.specs.Prelude.{IfOk}
 use Rattle.std.{proofs.lemmas.Bool.false≢true, specs.declared.alloc.Global.Global, specs.declared.string.String.String}
 use Rattle.dali_script.specs.{Records.Kept, Records.Assignment, Records.without_records}
@@ -59,13 +59,16 @@ run_so is_up is_sound holds block before others wanted by was mid keep x at y li
     absurd (ok_err _ (sym well ∙ so))
 
 -- and one that ended since gear share an address, as none does that stops for a fault
-Shares : Result (Unit {0}) Failure → Type 0
-Shares ended = ended ≡ Err Shared
+-- what a call ends with that failed
+failed : Failure → Result (Unit {0}) Failure
+failed why = Err why
 
-no_stranger : Shares (Err AddressedBefore) → ⊥
+no_stranger : failed AddressedBefore ≡ failed Shared → ⊥
+unfolding failed
 no_stranger is = cc
 
-no_fault : (fault : CommissionFault) (line : ℕ) → Shares (Err (failure_of fault line)) → ⊥
+no_fault : (fault : CommissionFault) (line : ℕ) → failed (failure_of fault line) ≡ failed Shared → ⊥
+unfolding failed
 no_fault (commission.Driver driver.BadLine) line is = cc
 no_fault (commission.Driver driver.LongLine) line is = cc
 no_fault (commission.Driver driver.TornLine) line is = cc
@@ -83,6 +86,7 @@ run_shared : {S : Type 0} (is_up is_sound : S → Type 0) (holds : S → List Re
     (ended : Result (Unit {0}) Failure) → ended ≡ Err Shared
     → IfOk came (HasBegun is_up is_sound holds block others wanted was mid x at by)
     → ComesTo is_up is_sound holds block before others came mid keep at y lines ended → Grows x y
+unfolding failed
 run_shared is_up is_sound holds block before others wanted by was mid keep x at y lines (Ok (begun.Addressed replies)) ended shared is
     (says, so, stores, same) = absurd (no_stranger (sym so ∙ shared))
 run_shared is_up is_sound holds block before others wanted by was mid keep x at y lines (Ok (begun.Commissioned pass)) ended shared is

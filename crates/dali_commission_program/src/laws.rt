@@ -14,8 +14,7 @@ use std::io::{Read, Write};
 
 /// A task that ended well has put something: no call of it ends well that wrote nothing to its driver. One case is left
 /// open: of a replacement that looks for the new gear (`Nowhere`), `HasLooked` does not tell what was put until the
-    random
-/// address of that gear is known.
+/// random address of that gear is known.
 pub fn tasks_that_end_well_put_something<S, F, R, W>(_system: &S)
 where
     S: Voice + Writes,

@@ -1,4 +1,4 @@
-use Rattle.std.proofs.Common.{◌∙◌, ap, Option, List, ℕ}
+use Rattle.std.proofs.Common.{◌∙◌, ap}
 use Rattle.std.specs.Prelude.{option_map, slice_get, string_bytes}
 use Rattle.dali_commission_said.specs.Tables.{only}
 use Rattle.dali_commission_program.proofs.Done.{run_done, check_done}
