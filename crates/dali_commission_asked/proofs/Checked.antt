@@ -4,7 +4,7 @@ use Rattle.dali_script.specs.{declared.block.Block.Block, declared.records.Recor
 use Rattle.dali_commissioning.specs.declared.{beginning.Checked.Checked, driver.DriverLink.DriverLink, fault.CommissionFault.CommissionFault}
 use Rattle.dali_commissioning.specs.{Drivers.{Talk, has_heard, lines_of, talk_of}, Runs.{IsChecked, IsRead}}
 use Rattle.dali_commission_said.specs.{declared.failure.Failure.Failure, declared.said.Said.Said, Said.AreTold}
-use Rattle.dali_commission_stores.specs.{Calls.{Look}, Lent.{IsLent, Copies}}
+use Rattle.dali_commission_stores.specs.{Calls.{Look}, Lent.{IsLent, IsCopied}}
 use Rattle.dali_commission_asked.specs.Came.{check_ended, check_said, HasAskedAll, HasChecked, IsCheckOf}
 
 -- WHAT A CHECK FOUND over a store is what was asked, beside its records.
@@ -37,11 +37,11 @@ checked_beside beside besides told others heard line x y result so is = (is.0, b
 pub check_of : {F K R W : Type 0} (is_up is_sound : K → Type 0) (holds : K → List Record → Type 0) (block : K → Block) (saw : F → Look → Type 0)
     (remaining : R → Option (List ℕ)) (contents : W → Option (List ℕ)) (told : Said → Type 0) (others : List Block) (stores : F) (name : List ℕ)
     (x y : DriverLink R W) (result : Result (Unit {0}) Failure)
-    → IsLent (Copies is_up is_sound holds block saw stores name)
+    → IsLent (IsCopied is_up is_sound holds block saw stores name)
     (λ from to p q done. HasChecked (IsRead is_up is_sound holds (block from) from to) told others (has_heard q) (lines_of q)
     (talk_of remaining contents p) (talk_of remaining contents q) done) x y result
     → IsCheckOf saw stores told others (has_heard y) (lines_of y) (talk_of remaining contents x) (talk_of remaining contents y) result (Some name)
 check_of is_up is_sound holds block saw remaining contents told others stores name x y result (inl not) =
     inl (not.0, ap (talk_of remaining contents) not.1)
 check_of is_up is_sound holds block saw remaining contents told others stores name x y result (inr is) =
-    inr (is.2, checked_beside _ _ told others _ _ _ _ is.2 (λ k reads. is.3.2 is.1 k reads) is.4, is.5)
+    inr (is.2, checked_beside _ _ told others _ _ _ _ is.2 (λ k reads. is.3.2.2 is.1 k reads) is.4, is.5)

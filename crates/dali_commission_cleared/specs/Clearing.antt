@@ -1,5 +1,5 @@
 use Rattle.std.specs.Prelude.{◌≡◌, ◌⊎◌, ℕ, Bool, true, false, if◌then◌else◌, List, [], ◌∷◌, Result}
-use Rattle.std.specs.Prelude.{Ok, Err, IsErr, None, not, ◌++◌, ◌↔◌, IsTrue, string_bytes}
+use Rattle.std.specs.Prelude.{Ok, Err, IsErr, None, not, nat_le, ◌++◌, ◌↔◌, IsTrue, string_bytes}
 use Rattle.std.specs.List.{list_any}
 use Rattle.std.specs.declared.alloc.Global.{Global}
 use Rattle.std.specs.declared.string.String.{String}
@@ -97,6 +97,7 @@ IsRound replies x y =
     × (at : Talk)
     × HaveErased begun e x at
     × (erasing_next e ≡ None)
+    × (nat_le 8 e.lost ≡ false)
     × AreCounted (without_records all_shorts) [] 0 replies at y
 
 -- round after round, as long as gear answer at short addresses

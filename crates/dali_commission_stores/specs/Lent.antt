@@ -1,5 +1,5 @@
-use Rattle.std.specs.Prelude.{◌≡◌, ◌⊎◌, ℕ, List, [], ◌∷◌, ◌++◌, Result, Ok, IsErr, IfOk}
-use Rattle.std.specs.Prelude.{string_bytes}
+use Rattle.std.specs.Prelude.{◌≡◌, ◌⊎◌, ℕ, true, false, List, [], ◌∷◌, ◌++◌, Result, Ok, IsErr}
+use Rattle.std.specs.Prelude.{IfOk, string_bytes}
 use Rattle.std.specs.declared.alloc.Global.{Global}
 use Rattle.std.specs.declared.string.String.{String}
 use Rattle.dali_script.specs.declared.block.Block.{Block}
@@ -7,9 +7,9 @@ use Rattle.dali_script.specs.declared.records.Record.{Record}
 use Rattle.dali_script.specs.Records.{Kept}
 use Rattle.dali_commissioning.specs.Runs.{IsRead}
 use Rattle.dali_commission_said.specs.declared.failure.Failure.{Failure}
-use Rattle.dali_commission_stores.specs.Calls.{Look, Read}
+use Rattle.dali_commission_stores.specs.Calls.{Look, Has, Read}
 use Rattle.dali_commission_stores.specs.declared.records.Seen.{Seen}
-use Rattle.dali_commission_stores.specs.Seen.{IsSeen}
+use Rattle.dali_commission_stores.specs.Seen.{IsBeside, IsSeen}
 
 -- RECORDS ARE LENT, and something beside them: they cannot be had, and what is lent beside them is
 -- as it was; or they are opened so, and the borrower does what it does. If all ends well, then as
@@ -34,6 +34,15 @@ Copies {K = K} is_up is_sound holds block saw stores name copy =
     × ((block copy).last ≡ 63)
     × ((at : K) (k : Kept) → IsRead is_up is_sound holds (block copy) copy at k
     → saw stores (Read name k))
+
+-- it is there, and no journal lay beside it, before it was copied and then
+abbrev pub IsCopied : {F K : Type 0} (is_up is_sound : K → Type 0)
+    (holds : K → List Record → Type 0)
+    (block : K → Block) → (F → Look → Type 0) → F → List ℕ → K → Type 0
+IsCopied is_up is_sound holds block saw stores name copy =
+    saw stores (Has name true)
+    × ((journal : List ℕ) × IsBeside saw stores name journal × saw stores (Has journal false))
+    × Copies is_up is_sound holds block saw stores name copy
 
 -- RECORDS OF SEVERAL NAMES ARE HELD, and something is lent beside them: they cannot be had, and all
 -- is as it was; or the holder does with them what it does, and then, if that ended well, what was

@@ -1,15 +1,17 @@
-use Rattle.std.specs.Prelude.{◌≡◌, ◌⊎◌, ℕ, Bool, true, false, List, [], ◌∷◌, Option, Some, None}
-use Rattle.std.specs.Prelude.{string_bytes}
+use Rattle.std.specs.Prelude.{◌≡◌, ◌⊎◌, ℕ, Bool, true, false, List, [], ◌∷◌, ◌++◌, Option, Some}
+use Rattle.std.specs.Prelude.{None, length, string_bytes}
 use Rattle.std.specs.declared.alloc.Global.{Global}
 use Rattle.std.specs.declared.string.String.{String}
 use Rattle.dali_script.specs.declared.block.Block.{Block}
-use Rattle.dali_script.specs.Records.{Kept}
+use Rattle.dali_script.specs.Records.{Kept, Has}
 use Rattle.dali_commissioning.specs.Runs.{outside}
 use Rattle.dali_replacement.specs.declared.come.Come.{Come}
 use Rattle.dali_replacement.specs.declared.come.Come.TheVariants.{Nowhere}
 use Rattle.dali_replacement.specs.Come.{come_of}
 use Rattle.dali_replacement.specs.declared.swap.Lies.{Lies}
 use Rattle.dali_replacement.specs.declared.swapping.Swap.{Swap}
+use Rattle.dali_replacement.specs.Swap.{AreAt}
+use Rattle.dali_replacement.specs.Swapping.{names_of, number_of, swap_text, texts_of}
 use Rattle.dali_commission_stores.specs.declared.records.Seen.{Seen}
 use Rattle.dali_commission_stores.specs.Calls.{Look}
 use Rattle.dali_commission_stores.specs.Calls as look
@@ -31,6 +33,7 @@ IsSeen saw x name block seen =
     × saw x (look.Read name kept)
     × (outside block kept.reserved ≡ None)
     × IsBeside saw x name (string_bytes seen.journal)
+    × saw x (look.Has (string_bytes seen.journal) false)
     × (seen.name.now ≡ name)
     × (seen.block ≡ block)
 
@@ -42,10 +45,28 @@ LiesSo saw x name number lies =
     × saw x (look.Has name lies.at)
     × saw x (look.Has (kept_at name number) lies.kept)
 
--- the journal of a swap beside the records of a name: its text was read, or there is none
+-- of all these files, behind others
+abbrev pub AreLying : {F : Type 0} → (F → Look → Type 0) → F → ℕ → List (String Global) → List Lies
+    → List Lies → Type 0
+AreLying saw x number [] before after = after ≡ before
+AreLying saw x number (name ∷ more) before after =
+    (lies : Lies)
+    × LiesSo saw x (string_bytes name) number lies
+    × AreLying saw x number more (before ++ lies ∷ []) after
+
+-- THE MOMENT of a swap, by what lies at the places of its files
+abbrev pub IsMoment : {F : Type 0} → (F → Look → Type 0) → Swap → F → ℕ → Type 0
+IsMoment saw swap x moment =
+    (all : List Lies)
+    × AreLying saw x (number_of swap) (names_of swap) [] all
+    × AreAt (length all) moment 0 all
+
+-- the journal of a swap beside the records of a name: its text was read, and it names that file; or
+-- there is none
 abbrev pub IsFound : {F : Type 0} → (F → Look → Type 0) → F → List ℕ → Option Swap → Type 0
 IsFound saw x name None = saw x (look.Text (journal_at name) None)
-IsFound saw x name (Some swap) = (text : List ℕ) × saw x (look.Text (journal_at name) (Some text))
+IsFound saw x name (Some swap) =
+    saw x (look.Text (journal_at name) (Some (swap_text swap))) × Has (texts_of swap) name
 
 -- THE FIRST JOURNAL that lies beside one of some names
 abbrev pub IsFirstJournal : {F : Type 0} → (F → Look → Type 0) → F → List (String Global)

@@ -1,4 +1,4 @@
-use Rattle.std.specs.Prelude.{◌≡◌, ◌≤◌, ◌<◌, ℕ, zero, suc, ◌+◌, ◌*◌, Bool, true, false, List, []}
+use Rattle.std.specs.Prelude.{◌≡◌, ◌≤◌, ◌<◌, ℕ, zero, suc, ◌+◌, List, []}
 use Rattle.std.specs.Prelude.{◌∷◌, ◌++◌, ◌⊎◌, Some, None, option_map, slice_get, codes, decimal}
 use Rattle.std.specs.Prelude.{length, min, string_bytes}
 use Rattle.dali_replacement.specs.declared.swap.Step.{Step}
@@ -55,19 +55,3 @@ abbrev pub GoesBack : {F : Type 0} → (F → F → Call → Type 0) → Swap �
 GoesBack made swap zero x y = x ≡ y
 GoesBack made swap (suc i) x y =
     (z : _) × IsDone made swap (Forget i) x z × GoesBack made swap i z y
-
--- ITS END: if each journal was written it goes on to the last moment, else it is taken back
-abbrev pub IsSettled : {F : Type 0} → (F → F → Call → Type 0) → Swap → F → F → Bool → Type 0
-IsSettled made swap x y true =
-    (moment : ℕ)
-    × (count_of swap ≤ moment)
-    × ((steps : List Step) × GoesOn made swap moment (4 * count_of swap) steps x y)
-IsSettled made swap x y false =
-    (moment : ℕ) × (moment < count_of swap) × GoesBack made swap moment x y
-
--- AN EXCHANGE: first each journal is written, and then it goes on to its end
-abbrev pub IsExchanged : {F : Type 0} → (F → F → Call → Type 0) → Swap → F → F → Type 0
-IsExchanged made swap x y =
-    (z : _)
-    × ((steps : List Step) × GoesOn made swap 0 (count_of swap) steps x z)
-    × IsSettled made swap z y true

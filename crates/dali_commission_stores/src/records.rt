@@ -3,7 +3,7 @@
 ghost use Rattle.std.specs.Prelude.{◌≡◌, Ok, IfOk, OnOk, string_bytes};
 ghost use Rattle.dali_commissioning.specs.Runs.{IsRead};
 ghost use Rattle.dali_commission_stores.specs.Calls.{Read};
-ghost use Rattle.dali_commission_stores.specs.Lent.{IsLent, IsOpened, Copies, AreRead};
+ghost use Rattle.dali_commission_stores.specs.Lent.{IsLent, IsOpened, IsCopied, AreRead};
 ghost use Rattle.dali_commission_said.specs.Failures.{answered};
 ghost use Rattle.dali_commission_stores.specs.Seen.{IsBeside, IsSeen};
 
@@ -136,7 +136,7 @@ pub fn lend_copy<F: Stores, D, B: Borrower<F::Copy, D>>(
     borrower: B,
     beside: &mut D,
 ) -> Result<B::Out, Failure>
-    ensures { IsLent (Copies F.Copy.is_up F.Copy.is_sound F.Copy.holds F.Copy.block F.saw stores.now name.now)
+    ensures { IsLent (IsCopied F.Copy.is_up F.Copy.is_sound F.Copy.holds F.Copy.block F.saw stores.now name.now)
         (B.came borrower) beside.old beside.new result }
 {
     let journal = journal_beside(alloc, stores, name)?;

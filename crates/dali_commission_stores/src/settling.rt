@@ -1,11 +1,12 @@
 //! A swap of files is brought to an end: step by step by `dali_replacement`, which says what is due at which moment.
 
-ghost use Rattle.std.specs.Prelude.{◌≡◌, false, List, IfOk, OnOk, option_map, string_bytes};
+ghost use Rattle.std.specs.Prelude.{◌≡◌, false, List, IfOk, IfSome, OnOk, option_map, string_bytes};
 ghost use Rattle.dali_replacement.specs.Swapping.{number_of};
-ghost use Rattle.dali_commission_stores.specs.Seen.{LiesSo, IsFirstJournal, IsFound};
+ghost use Rattle.dali_commission_stores.specs.Seen.{LiesSo, AreLying, IsMoment, IsFirstJournal, IsFound};
 ghost use Rattle.dali_replacement.specs.declared.swap.Step.{Step};
 ghost use Rattle.dali_commission_said.specs.Failures.{or_unfinished};
-ghost use Rattle.dali_commission_stores.specs.Settling.{IsNamed, IsDone, GoesOn, GoesBack, IsSettled, IsExchanged};
+ghost use Rattle.dali_commission_stores.specs.Settled.{IsSettled, IsExchanged};
+ghost use Rattle.dali_commission_stores.specs.Settling.{IsNamed, IsDone, GoesOn, GoesBack};
 
 use crate::stores::{Actor, Stores};
 use arrayvec::ArrayVec;
@@ -37,14 +38,33 @@ fn lies<F: Stores>(alloc: Global, stores: &F, swap: &Swap, name: &str) -> Result
     })
 }
 
-/// The moment at which a swap is, by what lies there.
-fn moment<F: Stores>(alloc: Global, stores: &F, swap: &Swap) -> Result<Option<u32>, Failure> {
-    let mut all: ArrayVec<Lies, MOST_FILES> = ArrayVec::new();
-    for name in swap.names() {
-        if all.try_push(lies(alloc, stores, swap, name)?).is_err() {
-            return Err(Failure::Unfinished);
-        }
+/// Adds what lies at the places of these files, and beside them.
+#[tactic(auto, using(std::proofs::lemmas::List::append_assoc))]
+fn lies_all<F: Stores>(
+    alloc: Global,
+    stores: &F,
+    swap: &Swap,
+    names: &[String],
+    all: &mut ArrayVec<Lies, MOST_FILES>,
+) -> Result<(), Failure>
+    ensures { OnOk result (AreLying F.saw stores.now (number_of swap.now) names.now all.old.items all.new.items) }
+{
+    let [name, more @ ..] = names else {
+        return Ok(());
+    };
+    let lies = lies(alloc, stores, swap, name)?;
+    if all.try_push(lies).is_err() {
+        return Err(Failure::Unfinished);
     }
+    lies_all(alloc, stores, swap, more, all)
+}
+
+/// The moment at which a swap is, by what lies there.
+fn moment<F: Stores>(alloc: Global, stores: &F, swap: &Swap) -> Result<Option<u32>, Failure>
+    ensures { IfOk result (λ moment. IfSome moment (IsMoment F.saw swap.now stores.now)) }
+{
+    let mut all = ArrayVec::new();
+    lies_all(alloc, stores, swap, swap.names(), &mut all)?;
     Ok(moment_of(&all))
 }
 
@@ -113,7 +133,7 @@ fn settles<S: Voice + AllocGlobal, F: Stores>(
     stores: &mut F,
     swap: &Swap,
 ) -> Result<bool, Failure>
-    ensures { IfOk result (IsSettled F.made swap.now stores.old stores.new) }
+    ensures { IfOk result (IsSettled F.made F.saw swap.now stores.old stores.new) }
 {
     let (alloc, count) = (system.alloc(), swap.count());
     match moment(alloc, stores, swap)? {
@@ -157,7 +177,7 @@ struct Settling<'a, S> {
 impl<S: Voice + AllocGlobal, F: Stores> Actor<F> for Settling<'_, S> {
     type Out = bool;
 
-    ghost acts = { λ settling. IsSettled F.made settling.swap.now };
+    ghost acts = { λ settling. IsSettled F.made F.saw settling.swap.now };
 
     fn act(self, stores: &mut F) -> Result<bool, Failure> {
         or_stopped(self.system, settles(self.system, stores, self.swap))
@@ -189,7 +209,7 @@ pub fn settle<S: Voice + AllocGlobal, F: Stores>(
     stores: &mut F,
     swap: &Swap,
 ) -> Result<bool, Failure>
-    ensures { IfOk result (IsSettled F.made swap.now stores.old stores.new) }
+    ensures { IfOk result (IsSettled F.made F.saw swap.now stores.old stores.new) }
 {
     let settling = Settling { system, swap };
     match first_journal(system.alloc(), stores, swap.names())? {
@@ -204,7 +224,7 @@ pub fn exchange<S: Voice + AllocGlobal, F: Stores>(
     stores: &mut F,
     swap: &Swap,
 ) -> Result<(), Failure>
-    ensures { OnOk result (IsExchanged F.made swap.now stores.old stores.new) }
+    ensures { OnOk result (IsExchanged F.made F.saw swap.now stores.old stores.new) }
 {
     let announced = goes_on(system.alloc(), stores, swap, 0, swap.count());
     or_stopped(system, announced)?;

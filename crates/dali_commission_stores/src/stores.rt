@@ -79,6 +79,7 @@ pub trait Stores: Sized {
     ghost use Rattle.dali_script.specs.Records.{Kept};
     ghost use Rattle.dali_commission_stores.specs.Calls.{Call, Wrote, Renamed, Likened, Removed};
     ghost use Rattle.dali_commission_stores.specs.Calls.{Look, Has, Text, Lies};
+    ghost use Rattle.std.specs.Prelude.{false};
     ghost use Rattle.dali_commission_stores.specs.Lent.{Copies, IsHeld};
     ghost use Rattle.dali_commission_stores.specs.declared.records.Seen.{Seen};
 
@@ -114,8 +115,8 @@ pub trait Stores: Sized {
     /// there. Nothing that is done to the copy changes them. `Unfinished` if this journal lies there once they are
     /// read.
     fn copy(&self, name: &str, journal: &str) -> Result<Self::Copy, Failure>
-        ensures { IfOk result (Copies Self.Copy.is_up Self.Copy.is_sound Self.Copy.holds Self.Copy.block
-            saw self.now name.now) };
+        ensures { IfOk result (λ copy. saw self.now (Has journal.now false) × Copies Self.Copy.is_up
+            Self.Copy.is_sound Self.Copy.holds Self.Copy.block saw self.now name.now copy) };
 
     /// The name under which lies what has this name, whatever links lead there, also if nothing lies there.
     fn place_of(&self, alloc: Global, name: &str) -> Result<String, Failure>

@@ -1,0 +1,29 @@
+use Rattle.std.specs.Prelude.{◌≤◌, ◌<◌, ℕ, ◌*◌, Bool, true, false, List}
+use Rattle.dali_replacement.specs.declared.swap.Step.{Step}
+use Rattle.dali_replacement.specs.declared.swapping.Swap.{Swap}
+use Rattle.dali_commission_stores.specs.Calls.{Call, Look}
+use Rattle.dali_commission_stores.specs.Seen.{IsMoment}
+use Rattle.dali_commission_stores.specs.Settling.{count_of, GoesOn, GoesBack}
+
+-- ITS END: by the moment at which it is, it goes on to the last moment if each journal
+-- was written, else it is taken back
+abbrev pub IsSettled : {F : Type 0} → (F → F → Call → Type 0) → (F → Look → Type 0) → Swap → F → F
+    → Bool → Type 0
+IsSettled made saw swap x y true =
+    (moment : ℕ)
+    × IsMoment saw swap x moment
+    × (count_of swap ≤ moment)
+    × ((steps : List Step) × GoesOn made swap moment (4 * count_of swap) steps x y)
+IsSettled made saw swap x y false =
+    (moment : ℕ)
+    × IsMoment saw swap x moment
+    × (moment < count_of swap)
+    × GoesBack made swap moment x y
+
+-- AN EXCHANGE: first each journal is written, and then it goes on to its end
+abbrev pub IsExchanged : {F : Type 0} → (F → F → Call → Type 0) → (F → Look → Type 0) → Swap → F → F
+    → Type 0
+IsExchanged made saw swap x y =
+    (z : _)
+    × ((steps : List Step) × GoesOn made swap 0 (count_of swap) steps x z)
+    × IsSettled made saw swap z y true
