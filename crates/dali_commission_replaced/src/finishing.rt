@@ -6,7 +6,7 @@ ghost use Rattle.dali_replacement.specs.Permit.{confirmed_at, confirmed_random};
 ghost use Rattle.dali_replacement.specs.Swapping.{address_of, names_of};
 ghost use Rattle.dali_replacement.specs.Tables.{AreGiven};
 ghost use Rattle.dali_commission_said.specs.Failures.{although_exchanged};
-ghost use Rattle.dali_commission_stores.specs.Settling.{IsSettled};
+ghost use Rattle.dali_commission_stores.specs.Settled.{IsSettled};
 ghost use Rattle.dali_commission_replaced.specs.Asking.{HasConfirmed, IsConfirmed};
 ghost use Rattle.dali_commission_replaced.specs.Tellings.{FinishTold};
 
@@ -26,7 +26,7 @@ fn finishes<S: Voice + AllocGlobal, F: Stores>(
     stores: &mut F,
     swap: &Swap,
 ) -> Result<bool, Failure>
-    ensures settled { IfOk result (IsSettled F.made swap.now stores.old stores.new) }
+    ensures settled { IfOk result (IsSettled F.made F.saw swap.now stores.old stores.new) }
     ensures told { IfOk result (λ is_done. FinishTold (S.told system.now) (address_of swap.now) is_done) }
 {
     let is_done = settle(system, stores, swap)?;
@@ -47,7 +47,7 @@ fn finished<S: Voice + AllocGlobal, F: Stores>(
     short: Short,
 ) -> Result<Option<Swap>, Failure>
     ensures { IfOk result (λ done. IfSome done (λ swap. (address_of swap ≡ short)
-        × IsSettled F.made swap stores.old stores.new true)) }
+        × IsSettled F.made F.saw swap stores.old stores.new true)) }
 {
     if finishes(system, stores, &swap)? && swap.short() == short {
         Ok(Some(swap))
@@ -64,7 +64,7 @@ pub(crate) fn exchanged<S: Voice + AllocGlobal, F: Stores>(
     short: Short,
 ) -> Result<Option<Swap>, Failure>
     ensures { IfOk result (λ done. IfSome done (λ swap. (address_of swap ≡ short)
-        × ((from to : F) × IsSettled F.made swap from to true))) }
+        × ((from to : F) × IsSettled F.made F.saw swap from to true))) }
 {
     let [name, more @ ..] = names else {
         return Ok(None);

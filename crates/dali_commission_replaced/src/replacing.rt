@@ -442,7 +442,7 @@ impl<S: Voice + AllocGlobal, F: Stores, R: Read, W: Write> Holder<F, DriverLink<
     ghost use Rattle.dali_replacement.specs.Permit.{confirmed_random};
     ghost use Rattle.dali_commission_replaced.specs.Asking.{HasReplacedSo};
     ghost use Rattle.dali_commission_replaced.specs.Replacing.{IsDue};
-    ghost use Rattle.dali_commission_stores.specs.Settling.{IsExchanged};
+    ghost use Rattle.dali_commission_stores.specs.Settled.{IsExchanged};
 
     ghost dues = { λ replacing all _ _ x y result. IfOk result (λ due. IsDue replacing.asking.now.wanted.now.short all
         due
@@ -450,7 +450,7 @@ impl<S: Voice + AllocGlobal, F: Stores, R: Read, W: Write> Holder<F, DriverLink<
         F.saw F.opens R.remaining W.contents (S.told replacing.asking.now.system.now) replacing.asking.now.wanted.now
         replacing.names.now all (confirmed_random due.confirmed) x y) };
 
-    ghost ends = { λ _ from to due out. IsExchanged F.made due.swap from to × (out ≡ due) };
+    ghost ends = { λ _ from to due out. IsExchanged F.made F.saw due.swap from to × (out ≡ due) };
 
     fn refused(&self, name: &str, failure: Failure) -> Failure {
         say_refused(self.asking.system, name, failure)
