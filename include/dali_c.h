@@ -62,7 +62,7 @@ enum dali_status {
 
 /* What a machine is told. */
 enum dali_input {
-    /* To start, in a first run over new gear: those without short address draw random addresses, and are searched. */
+    /* To start, if all gear without short address are to draw random addresses at once; then they are searched. */
     DALI_START = 0,
     /* The frame was sent whole, and within the time of a backward frame nothing was heard; */
     DALI_HEARD_SILENCE = 1,
@@ -78,13 +78,13 @@ enum dali_input {
     DALI_COMMITTED = 6,
     /* The record cannot be kept. */
     DALI_COMMIT_FAILED = 7,
-    /* To start, in place of DALI_START, over gear that may have been used before. The machine asks under each short
+    /* To start, in each run. The machine asks under each short
      * address that is reserved, or that its table does not name, whether gear are there: three times if none answers.
      * Gear that tells a random address is enrolled, whether or not the short address is of the block. Then the gear
      * without short address are searched under the random addresses that they have, and get the address that is
      * reserved for them, or a free one under which no gear was heard. At last, if an address like that is free, those
-     * that are left draw random addresses and are searched. Use it in each run but a first one over new gear. It costs
-     * some six seconds of the bus. */
+     * that are left draw random addresses and are searched. The questions cost some six seconds of the bus; the searches of
+     * many new gear take less than after DALI_START. */
     DALI_SURVEY = 8
 };
 
