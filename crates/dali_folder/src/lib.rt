@@ -1,0 +1,2 @@
+//! Files in a folder: what programs see of them, and what a crash leaves.
+#![tactic(auto)]
