@@ -1,0 +1,5 @@
+mod Begun
+pub mod Moving
+pub mod Names
+mod Settled
+pub mod Writing
