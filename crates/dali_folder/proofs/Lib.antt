@@ -2,4 +2,5 @@ mod Begun
 pub mod Moving
 pub mod Names
 mod Settled
+pub mod Tried
 pub mod Writing

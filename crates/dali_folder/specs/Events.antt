@@ -1,4 +1,4 @@
-use Rattle.std.specs.Prelude.{◌≡◌, ◌⊎◌, ℕ, List, [], ◌∷◌, ◌++◌, Result, Ok, Err}
+use Rattle.std.specs.Prelude.{◌≡◌, ◌⊎◌, ℕ, Bool, List, [], ◌∷◌, ◌++◌, Option, Result, Ok, Err}
 
 -- A CALL OF THE SYSTEM that changes something in folders, with the names of files there. By POSIX:
 -- `open` with O_CREAT and O_TRUNC; `write` behind what the file has; `fsync` of it; `rename` from one
@@ -12,6 +12,11 @@ pub data Event : Type 0 where
   Removes : List ℕ → Event
   SyncsFolder : List ℕ → Event
   Likens : List ℕ → List ℕ → Event
+
+-- A LOOK at folders, with its answer: whether something has a name; what a file has, if it is there
+pub data Sight : Type 0 where
+  Has : List ℕ → Bool → Sight
+  Reads : List ℕ → Option (List ℕ) → Sight
 
 -- these were done, in this order and no other, by what tells that one was
 abbrev pub AreDone : {F : Type 0} → (F → F → Event → Type 0) → List Event → F → F → Type 0
