@@ -1,0 +1,6 @@
+mod Times
+mod Parts
+mod Stopped
+mod Looked
+mod Over
+mod Truths

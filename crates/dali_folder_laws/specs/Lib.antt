@@ -1,0 +1,3 @@
+pub mod Folder
+pub mod Moments
+pub mod Stops
