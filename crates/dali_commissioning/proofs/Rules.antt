@@ -58,9 +58,12 @@ pub rules_left : {S : Type 0} (is_up is_sound : S → Type 0) (holds : S → Lis
     (committed : Bool) (count : ℕ)
     → m.last ≡ None → m.trace ≡ [] → IsAt is_up is_sound holds was mid m n x y first waiting order committed count
     → Stays is_up is_sound mid keep → MayCommitLast is_up is_sound holds mid keep [] (record_ordered (Some order))
-    → HasWritten reason y z (order_line waiting (Some order)) → LeavesRules is_up is_sound holds reason was keep m.kept x z
+    → HasWritten reason y z (order_line waiting (Some order)) → LeavesRules is_up is_sound holds first reason was keep m x z
 rules_left is_up is_sound holds reason was mid keep m n x y z first waiting order committed count unstarted idle so_far stays last written = record {
   steps = so_far.steps;
+  machine = n;
+  taken = so_far.conducted.taken;
+  started = so_far.begun;
   at = y;
   wrote = so_far.conducted.wrote;
   bytes = so_far.conducted.bytes;
@@ -82,7 +85,7 @@ rules_left is_up is_sound holds reason was mid keep m n x y z first waiting orde
 pub rules_spent : {S : Type 0} (is_up is_sound : S → Type 0) (holds : S → List Record → Type 0)
     (was keep : S) (m n : Machine) (x y : Talk) (first : Input) (waiting : Option Forward) (order : Order) (committed : Bool) (count : ℕ)
     → m.last ≡ None → m.trace ≡ [] → IsAt is_up is_sound holds was keep m n x y first waiting order committed count
-    → LeavesRules is_up is_sound holds StepsSpent was keep m.kept x y
+    → LeavesRules is_up is_sound holds first StepsSpent was keep m x y
 rules_spent is_up is_sound holds was keep m n x y first waiting order committed count unstarted idle at =
     rules_left is_up is_sound holds StepsSpent was keep keep m n x y y first waiting order committed count unstarted idle at
     (record { up = λ up. up; sound = λ sound up. sound }) (same_last is_up is_sound holds keep (record_ordered (Some order))) (Appends-nil y.written)
@@ -216,7 +219,7 @@ module _ {S : Type 0} (is_up is_sound : S → Type 0) (holds : S → List Record
 
   left_own : (reason : CommissionFault) (was mid keep : S) (x at y : Talk) (runs : List Run) (acts : List Act)
       → AreRuns is_up is_sound holds block first was mid x at runs → Stays is_up is_sound mid keep
-      → IsLeftRun is_up is_sound holds block reason mid keep at y acts
+      → IsLeftRun is_up is_sound holds block first reason mid keep at y acts
       → is_sound was → is_up keep → (xs : List Record) → holds was xs → (k : Kept) → IsReplay block xs k
       → AreOwn (sender_of k) (acts_of_runs runs ++ acts)
   left_own reason was mid keep x at y runs acts are stays (inl none) sound up xs held k replay =
@@ -231,7 +234,7 @@ module _ {S : Type 0} (is_up is_sound : S → Type 0) (holds : S → List Record
 
   runs_leave_rules : (reason : CommissionFault) (was mid keep : S) (x at y : Talk) (quiet count : ℕ)
       → HasRun is_up is_sound holds block first was mid x at quiet count → Stays is_up is_sound mid keep
-      → (acts : List Act) × IsLeftRun is_up is_sound holds block reason mid keep at y acts
+      → (acts : List Act) × IsLeftRun is_up is_sound holds block first reason mid keep at y acts
       → RunsLeaveRules is_up is_sound holds block first reason was keep x y
   runs_leave_rules reason was mid keep x at y quiet count so_far stays (acts, last) = record {
     runs = so_far.runs;
@@ -245,11 +248,11 @@ module _ {S : Type 0} (is_up is_sound : S → Type 0) (holds : S → List Record
 
   pub runs_left : (other : Block) (reason : CommissionFault) (was mid keep : S) (x at y : Talk) (quiet count : ℕ)
       → HasRun is_up is_sound holds block first was mid x at quiet count → Stays is_up is_sound mid keep → other ≡ block
-      → (acts : List Act) × IsLeftRun is_up is_sound holds other reason mid keep at y acts
+      → (acts : List Act) × IsLeftRun is_up is_sound holds other first reason mid keep at y acts
       → RunsLeaveRules is_up is_sound holds block first reason was keep x y
   runs_left other reason was mid keep x at y quiet count so_far stays same last =
       runs_leave_rules reason was mid keep x at y quiet count so_far stays
-      (subst (λ b. (acts : List Act) × IsLeftRun is_up is_sound holds b reason mid keep at y acts) same last)
+      (subst (λ b. (acts : List Act) × IsLeftRun is_up is_sound holds b first reason mid keep at y acts) same last)
 
   pub runs_spent_rules : (was keep : S) (x y : Talk) (quiet count : ℕ)
       → HasRun is_up is_sound holds block first was keep x y quiet count
@@ -259,25 +262,28 @@ module _ {S : Type 0} (is_up is_sound : S → Type 0) (holds : S → List Record
       ([], inl (refl, λ sound up xs held. subst (holds keep) (sym (append-nil xs)) held, refl))
 
 -- a run whose store could not be read
-pub unread_run : {S : Type 0} (is_up is_sound : S → Type 0) (holds : S → List Record → Type 0) (block : Block) (reason : CommissionFault)
-    (was keep : S) (x : Talk) → (is_sound was → is_up keep → (xs : List Record) → holds was xs → holds keep xs)
-    → (acts : List Act) × IsLeftRun is_up is_sound holds block reason was keep x x acts
-unread_run is_up is_sound holds block reason was keep x same =
+pub unread_run : {S : Type 0} (is_up is_sound : S → Type 0) (holds : S → List Record → Type 0) (block : Block) (first : Input)
+    (reason : CommissionFault) (was keep : S) (x : Talk) → (is_sound was → is_up keep → (xs : List Record) → holds was xs → holds keep xs)
+    → (acts : List Act) × IsLeftRun is_up is_sound holds block first reason was keep x x acts
+unread_run is_up is_sound holds block first reason was keep x same =
     ([], inl (refl, λ sound up xs held. subst (holds keep) (sym (append-nil xs)) (same sound up xs held), refl))
 
 -- a run that was left after its store was read
 pub left_run : {S : Type 0} (is_up is_sound : S → Type 0) (holds : S → List Record → Type 0) (kept_of : S → Kept)
     (must_read : S → Bool) (block_of : S → Block)
     → ((s : S) (xs : List Record) → is_sound s → must_read s ≡ false → holds s xs → IsReplay (block_of s) xs (kept_of s))
-    → (reason : CommissionFault) (was mid keep : S) (m : Machine) (x y : Talk) (k : Kept)
+    → (first : Input) (reason : CommissionFault) (was mid keep : S) (m : Machine) (x y : Talk) (k : Kept)
     → k ≡ kept_of mid → must_read mid ≡ false → block_of mid ≡ block_of was → Stays is_up is_sound was mid → Stays is_up is_sound mid keep
     → (is_sound was → is_up mid → (xs : List Record) → holds was xs → holds mid xs)
-    → m ≡ at_first 0 k → (m.trace ≡ [] → LeavesRules is_up is_sound holds reason mid keep m.kept x y)
-    → (acts : List Act) × IsLeftRun is_up is_sound holds (block_of was) reason was keep x y acts
-left_run is_up is_sound holds kept_of must_read block_of replay reason was mid keep m x y k answer is_read block stays later same begins leaves =
-    let left = leaves (ap (λ n. n.trace) begins) in
-    let whole : LeavesRules is_up is_sound holds reason was keep m.kept x y = record {
+    → m ≡ at_first 0 k → (m.trace ≡ [] → LeavesRules is_up is_sound holds first reason mid keep m x y)
+    → (acts : List Act) × IsLeftRun is_up is_sound holds (block_of was) first reason was keep x y acts
+left_run is_up is_sound holds kept_of must_read block_of replay first reason was mid keep m x y k answer is_read block stays later same begins leaves =
+    let left = subst (λ n. LeavesRules is_up is_sound holds first reason mid keep n x y) begins (leaves (ap (λ n. n.trace) begins)) in
+    let whole : LeavesRules is_up is_sound holds first reason was keep (at_first 0 k) x y = record {
       steps = left.steps;
+      machine = left.machine;
+      taken = left.taken;
+      started = left.started;
       at = left.at;
       wrote = left.wrote;
       bytes = left.bytes;
@@ -289,9 +295,9 @@ left_run is_up is_sound holds kept_of must_read block_of replay reason was mid k
     } in (
       Begins ∷ (acts_by left.steps ++ outstanding (last_order left.steps)),
       inr (
-        m.kept,
+        k,
         λ sound up xs held.
-            subst (λ b. IsReplay b xs m.kept) block (subst (IsReplay (block_of mid) xs) (sym answer ∙ sym (ap (λ n. n.kept) begins))
+            subst (λ b. IsReplay b xs k) block (subst (IsReplay (block_of mid) xs) (sym answer)
             (replay mid xs (stays.sound sound (later.up up)) is_read (same sound (later.up up) xs held))),
         whole,
         refl,
