@@ -1,3 +1,4 @@
 pub mod Asking
 pub mod Replacing
 pub mod Tellings
+pub mod Ruled

@@ -18,7 +18,7 @@ use Rattle.dali_commissioning.specs.declared.{conducting.PassEnd.PassEnd, fault.
 use Rattle.dali_commissioning.specs.declared.fault.CommissionFault.TheVariants.{RunsSpent}
 use Rattle.dali_commissioning.specs.Conducted.{Commits, Stays, IsAt}
 use Rattle.dali_commissioning.specs.{Drivers.Talk, Runs.Run, Runs.AreRuns, Steps.committed_by}
-use Rattle.dali_commissioning.proofs.Outstanding.{outstanding_own}
+use Rattle.dali_commissioning.proofs.{Done.steps_done, Outstanding.outstanding_own}
 use Rattle.dali_commissioning.proofs.{Acts.keeps_to_scripts, Acts.records_are_kept, Acts.records_both, Ran.HasRun, Ran.OneRun, Steps.stays_further}
 
 -- WHAT IS CONDUCTED KEEPS THE RULES, by the records of its store.
@@ -79,6 +79,7 @@ rules_left is_up is_sound holds reason was mid keep m n x y z first waiting orde
         subst (λ ys. holds keep (xs ++ (ys ++ more))) (sym (records_are_kept so_far.steps))
             (subst (holds keep) (append_assoc xs (committed_by so_far.steps) more) has),
       );
+  done = steps_done m n so_far.steps x y unstarted so_far.conducted;
   own = outstanding_own m n so_far.steps unstarted idle so_far.conducted.taken;
 }
 
@@ -93,7 +94,7 @@ rules_spent is_up is_sound holds was keep m n x y first waiting order committed 
 -- ---------------------------------------------------------------- one sender after the other
 
 -- what it keeps is the replay of its records
-kept_all : (v : Own) (acts : List Act) → (own_all v acts).kept ≡ replay_of v.kept (records_of acts)
+pub kept_all : (v : Own) (acts : List Act) → (own_all v acts).kept ≡ replay_of v.kept (records_of acts)
 kept_all v [] = refl
 kept_all v (Puts f h ∷ acts) = kept_all (own_after v (Puts f h)) acts
 kept_all v (Loses f ∷ acts) = kept_all (own_after v (Loses f)) acts
@@ -139,13 +140,13 @@ own_told k trace few many (Keeps (record_of.Release a r) ∷ acts) all own = (
 )
 
 -- a sender that begins anew, with the records that it has then
-own_anew : (v : Own) (acts : List Act) → AreOwn (sender_of v.kept) acts → AreOwn v (Begins ∷ acts)
+pub own_anew : (v : Own) (acts : List Act) → AreOwn (sender_of v.kept) acts → AreOwn v (Begins ∷ acts)
 own_anew v acts own = (tt, own_told v.kept [] [] v.told acts (λ x has. absurd has) own)
 
 -- ---------------------------------------------------------------- run after run
 
 module _ {S : Type 0} (is_up is_sound : S → Type 0) (holds : S → List Record → Type 0) (block : Block) (first : Input) where
-  runs_stay : (was keep : S) (x y : Talk) (runs : List Run) → AreRuns is_up is_sound holds block first was keep x y runs
+  pub runs_stay : (was keep : S) (x y : Talk) (runs : List Run) → AreRuns is_up is_sound holds block first was keep x y runs
       → Stays is_up is_sound was keep
   runs_stay was keep x y [] are = subst (λ s. Stays is_up is_sound was s) (sym are.0) (record { up = λ up. up; sound = λ sound up. sound })
   runs_stay was keep x y (run ∷ before) (mid, at, are, is) =
@@ -161,7 +162,7 @@ module _ {S : Type 0} (is_up is_sound : S → Type 0) (holds : S → List Record
       own_both (sender_of k) earlier (Begins ∷ acts) so_far
       (own_anew (own_all (sender_of k) earlier) acts (subst (λ i. AreOwn (sender_of i) acts) same own))
 
-  runs_own : (was keep : S) (x y : Talk) (runs : List Run) → AreRuns is_up is_sound holds block first was keep x y runs
+  pub runs_own : (was keep : S) (x y : Talk) (runs : List Run) → AreRuns is_up is_sound holds block first was keep x y runs
       → is_sound was → is_up keep → (xs : List Record) → holds was xs → (k : Kept) → IsReplay block xs k
       → AreOwn (sender_of k) (acts_of_runs runs) × holds keep (xs ++ records_of (acts_of_runs runs))
   runs_own was keep x y [] are sound up xs held k replay =
@@ -188,7 +189,7 @@ module _ {S : Type 0} (is_up is_sound : S → Type 0) (holds : S → List Record
   runs_read was keep x y run (earlier ∷ before) (mid, at, are, is) sound up xs held =
       runs_read was mid x at earlier before are sound (is.stays.up up) xs held
 
-  runs_commit : (was keep : S) (x y : Talk) (runs : List Run) → AreRuns is_up is_sound holds block first was keep x y runs
+  pub runs_commit : (was keep : S) (x y : Talk) (runs : List Run) → AreRuns is_up is_sound holds block first was keep x y runs
       → Commits is_up is_sound holds was keep (records_of (acts_of_runs runs))
   runs_commit was keep x y [] are = λ sound up xs held. subst (λ s. holds s (xs ++ [])) (sym are.0) (subst (holds was) (sym (append-nil xs)) held)
   runs_commit was keep x y (run ∷ before) are = λ sound up xs held.
@@ -243,6 +244,7 @@ module _ {S : Type 0} (is_up is_sound : S → Type 0) (holds : S → List Record
     at = at;
     are = so_far.are;
     last = last;
+    stays = stays;
     own = left_own reason was mid keep x at y so_far.runs acts so_far.are stays last;
   }
 
@@ -289,6 +291,7 @@ left_run is_up is_sound holds kept_of must_read block_of replay first reason was
       bytes = left.bytes;
       read = left.read;
       told = left.told;
+      done = left.done;
       begun = left.begun;
       commits = λ sound up xs held. left.commits (stays.sound sound (later.up up)) up xs (same sound (later.up up) xs held);
       own = left.own;

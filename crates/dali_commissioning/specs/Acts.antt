@@ -18,7 +18,8 @@ use Rattle.dali_commissioning.specs.Steps.{Step, written_by, HaveRead, order_lin
 use Rattle.dali_commissioning.specs.Steps.{AreSteps, first_told, last_order}
 use Rattle.dali_commissioning.specs.declared.fault.CommissionFault.{CommissionFault}
 use Rattle.dali_commissioning.specs.declared.fault.CommissionFault.TheVariants as fault
-use Rattle.dali_commissioning.specs.Conducted.{Commits}
+use Rattle.dali_commissioning.specs.Conducted.{Commits, Stays}
+use Rattle.dali_commissioning.specs.Done.{AreDone}
 use Rattle.dali_commissioning.specs.Runs.{Run, AreRuns, IsRead}
 use Rattle.dali_commissioning.specs.Census.{AreCounted, is_addressed}
 use Rattle.dali_commissioning.specs.declared.census.Reply.{Reply}
@@ -104,6 +105,7 @@ pub record LeavesRules {S : Type 0} (is_up is_sound : S → Type 0)
   pub bytes : List ℕ
   pub read : Consumes x.left at.left bytes
   pub told : HaveRead steps bytes
+  pub done : AreDone (acts_by steps) x at
   pub begun : HasWritten reason at y (order_line (open_after steps) (last_order steps))
   pub commits : MayCommitLast is_up is_sound holds was keep (records_of (acts_by steps))
       (record_ordered (last_order steps))
@@ -149,6 +151,7 @@ pub record RunsLeaveRules {S : Type 0} (is_up is_sound : S → Type 0)
   pub at : Talk
   pub are : AreRuns is_up is_sound holds block first was mid x at runs
   pub last : IsLeftRun is_up is_sound holds block first reason mid keep at y acts
+  pub stays : Stays is_up is_sound mid keep
   pub own : is_sound was → is_up keep → (xs : List Record) → holds was xs
       → (k : Kept) → IsReplay block xs k → AreOwn (sender_of k) (acts_of_runs runs ++ acts)
 

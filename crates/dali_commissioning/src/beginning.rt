@@ -7,6 +7,7 @@ ghost use Rattle.dali_commissioning.specs.Drivers.{talk_of, IsCutBeside};
 ghost use Rattle.dali_commissioning.specs.Acts.{HasNotBegun};
 ghost use Rattle.dali_commissioning.specs.Census.{IsLost};
 ghost use Rattle.dali_commissioning.specs.Conducted.{Stays};
+ghost use Rattle.dali_commissioning.specs.Rules.{LeavesBegun};
 ghost use Rattle.dali_commissioning.specs.Runs.{IsRead, IsBegun, IsChecked, IsCheckLost, Grows, outside};
 
 use crate::census::{Reply, is_addressed, take_census};
@@ -69,6 +70,9 @@ pub fn begin<K: Keep, R: Read, W: Write, P: Watch>(
         × IsRead K.is_up K.is_sound K.holds (K.block keep.old) keep.old keep.new k × IsLost k others.now
         (talk_of R.remaining W.contents driver.old) (talk_of R.remaining W.contents driver.new) }
     ensures left { IfErr result (λ _. Grows K.is_up K.is_sound K.holds keep.old keep.new) }
+    ensures left_rules { IfErr result (λ reason. LeavesBegun K.is_up K.is_sound K.holds (K.block keep.old) others.now
+        reason keep.old keep.new (talk_of R.remaining W.contents driver.old)
+        (talk_of R.remaining W.contents driver.new)) }
     ensures block { K.block keep.new ≡ K.block keep.old }
     ensures failed { IfErr result (λ reason. HasNotBegun K.is_up K.is_sound K.holds (K.block keep.old) others.now reason
         keep.old keep.new (talk_of R.remaining W.contents driver.old) (talk_of R.remaining W.contents driver.new)) }
