@@ -3,3 +3,4 @@ pub mod Filled
 pub mod Heard
 pub mod Moments
 pub mod Putting
+pub mod Reading

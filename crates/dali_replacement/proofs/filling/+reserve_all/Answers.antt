@@ -8,7 +8,7 @@ returns-clause-only g t c =
     c.reserve_if.new.store c.reserve_all.new.store
     (puts_wider g.K.Keep.is_up g.K.Keep.is_sound g.K.Keep.holds _ _ _ _
     (reserves_first c.args.table.now.enrolled c.pair-item.result _ c.args.pairs.now (split _ _ c.pair-item.is c.in-len1-up.len_at_least))
-        c.reserve_if.ensures.only)
+    c.reserve_if.ensures.only)
     (puts_wider g.K.Keep.is_up g.K.Keep.is_sound g.K.Keep.holds _ _ _ _
     (reserves_more c.args.table.now.enrolled c.pair-item.result _ c.args.pairs.now (split _ _ c.pair-item.is c.in-len1-up.len_at_least))
-        c.reserve_all.ensures.only)
+    c.reserve_all.ensures.only)

@@ -9,6 +9,6 @@ returns-clause-only g c =
     (puts_same g.K.Keep.is_up g.K.Keep.is_sound g.K.Keep.holds _ _ _ c.read.ensures.up c.read.ensures.sound c.read.ensures.same)
     (puts_further g.K.Keep.is_up g.K.Keep.is_sound g.K.Keep.holds _ _ c.enrol_all.new.store _
     (puts_wider g.K.Keep.is_up g.K.Keep.is_sound g.K.Keep.holds _ _ _ _
-        (enrols_also c.enrolled.result.now c.args.table.now.enrolled c.args.reserved.now c.enrolled.ensures.value)
+    (enrols_also c.enrolled.result.now c.args.table.now.enrolled c.args.reserved.now c.enrolled.ensures.value)
     c.enrol_all.ensures.only)
     c.reserve_all.ensures.only)
