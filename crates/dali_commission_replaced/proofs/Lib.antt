@@ -1,1 +1,2 @@
+pub mod Finished
 pub mod Given

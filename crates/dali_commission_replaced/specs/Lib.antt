@@ -1,3 +1,4 @@
 pub mod Asking
+pub mod Finishing
 pub mod Replacing
 pub mod Tellings
