@@ -111,7 +111,8 @@ placed swap files k name lies x y apart is ready parts after Old at part =
 
 -- TO THE NEXT MOMENT, and back
 to_next : (swap : Swap) (files : Files) (m : ℕ) (s : Step) (x y : Folder) → AreApart swap → IsAt swap files m x → step_after (count_of swap) m ≡ Some s
-    → (HasParts swap files (file_of s) (lies_at (count_of swap) m (file_of s)) x → HasParts swap files (file_of s) (done s (lies_at (count_of swap) m (file_of s))) y)
+    → (HasParts swap files (file_of s) (lies_at (count_of swap) m (file_of s)) x
+    → HasParts swap files (file_of s) (done s (lies_at (count_of swap) m (file_of s))) y)
     → ((at : List ℕ) → ((p : Part) → IsPart swap (file_of s) p at → ⊥) → y at ≡ x at) → IsAt swap files (m + 1) y
 to_next swap files m s x y apart is due parts rest =
     let inside = within (count_of swap) m s due in

@@ -6,7 +6,8 @@ use Rattle.dali_replacement.specs.Swap.{lies_at, IsOld, IsNew}
 use Rattle.dali_replacement.proofs.Moments.{old, new, one, begun, ended}
 use Rattle.dali_commission_stores.specs.Settling.{count_of}
 use Rattle.dali_folder_laws.specs.Folder.{Folder}
-use Rattle.dali_folder_laws.specs.Moments.{Part, Itself, New, Journal, Old, IsPart, Files, AreSo, before, after, IsBefore, IsBehind, if_there, at_moment, IsAt, AllOld}
+use Rattle.dali_folder_laws.specs.Moments.{Part, Itself, New, Journal, Old, IsPart, Files, AreSo, before, after}
+use Rattle.dali_folder_laws.specs.Moments.{IsBefore, IsBehind, if_there, at_moment, IsAt, AllOld}
 use Rattle.dali_folder_laws.specs.Moments.{AllNew, AllAnnounced}
 
 so : (swap : Swap) (files : Files) (has had : ℕ → Part → Option (List ℕ)) (x : Folder) → ((i : ℕ) (p : Part) → i < count_of swap → had i p ≡ has i p)

@@ -54,8 +54,8 @@ pub record AreSo (swap : Swap) (files : Files) (has : ℕ → Part → Option (L
       → ((i : ℕ) (p : Part) → i < count_of swap → IsPart swap i p at → ⊥)
       → x at ≡ files.beside at
 
--- BEFORE AN EXCHANGE each old file is in its place, and the new one lies beside it; after it the new
--- one is there, and the old one is kept; no journal lies there
+-- BEFORE AN EXCHANGE each old file is in its place, and the new one lies beside it; after it the
+-- new one is there, and the old one is kept; no journal lies there
 abbrev pub before : Files → ℕ → Part → Option (List ℕ)
 before files i Itself = Some (files.old i)
 before files i New = Some (files.new i)
@@ -96,8 +96,8 @@ IsAt swap files m x = AreSo swap files (at_moment swap files m) x
 abbrev pub IsAtSome : Swap → Files → Folder → Type 0
 IsAtSome swap files x = (m : ℕ) × (m ≤ 4 * count_of swap) × IsAt swap files m x
 
--- each file has its old bytes, or each its new ones; and beside each lies a journal with the text of
--- the swap
+-- each file has its old bytes, or each its new ones; and beside each lies a journal with the text
+-- of the swap
 abbrev pub HaveAll : Swap → Part → (ℕ → List ℕ) → Folder → Type 0
 HaveAll swap p has x =
     (i : ℕ) (at : List ℕ) → i < count_of swap → IsPart swap i p at → x at ≡ Some (has i)

@@ -1,6 +1,6 @@
 //! What a stop leaves of an exchange of files. Programs don't call these.
 
-ghost use Rattle.std.specs.Prelude.{◌≡◌, ◌≤◌, ◌<◌, ◌⊎◌, ℕ, ◌+◌, ◌*◌, Bool, true, false, List, Some, None};
+ghost use Rattle.std.specs.Prelude.{◌≡◌, ◌≤◌, ◌<◌, ◌⊎◌, ℕ, ◌+◌, ◌*◌, Bool, true, List, Some, None};
 ghost use Rattle.dali_replacement.specs.declared.swap.Step.{Step};
 ghost use Rattle.dali_replacement.specs.declared.swap.Step.TheVariants.{Forget};
 ghost use Rattle.dali_replacement.specs.declared.swapping.Swap.{Swap};
@@ -8,7 +8,7 @@ ghost use Rattle.dali_replacement.specs.Swap.{step_after};
 ghost use Rattle.dali_commission_stores.specs.Seen.{IsMoment};
 ghost use Rattle.dali_commission_stores.specs.Settling.{IsDone, count_of};
 ghost use Rattle.dali_folder_laws.specs.Folder.{Folder, IsCalled};
-ghost use Rattle.dali_folder_laws.specs.Moments.{Part, Itself, Journal, IsPart, MayBegin, Files, IsBefore, IsBehind};
+ghost use Rattle.dali_folder_laws.specs.Moments.{Itself, Journal, IsPart, MayBegin, Files, IsBefore, IsBehind};
 ghost use Rattle.dali_folder_laws.specs.Moments.{IsAt, IsAtSome, AllOld, AllNew, AllAnnounced};
 ghost use Rattle.dali_folder_laws.specs.Stops.{Program, starting, Sees, Exchanges, Settles, SettleOften, ended_as};
 
