@@ -75,7 +75,7 @@ module _ {K : Type 0} (is_up is_sound : K → Type 0) (holds : K → List Record
         was,
         keep,
         inl (ask_puts is_up is_sound holds (alone a) was keep x before y first
-        (puts_ask is_up is_sound holds (alone a) was keep before after y puts last)),
+            (puts_ask is_up is_sound holds (alone a) was keep before after y puts last)),
       )
   gives_between a x before after y first (inr (was, keep, inr (at, random, then, left, puts))) last =
       inr (was, keep, inr (before, at, random, then, first, left, puts_ask is_up is_sound holds (alone a) was keep at after y puts last))

@@ -109,15 +109,15 @@ one_mends p m s spares =
     let T : ℕ → Gear → Gear → Type 0 = λ r g h. IsTabled p m.short r → g.random ≡ r → Keeps g h in
     joined s.gear after (none_is_given m.short m.sendings s) (all_others_keep m.short m.sendings s)
     (λ r has. all_tabled_keep m.short r m.sendings s (spares r has)) where
-  joined : (gs hs : List Gear) → Each IsGivenNone gs hs → Each (λ g h. has_short m.short g.short ≡ false → Keeps g h) gs hs
-      → ((r : ℕ) → IsTabled p m.short r → Each (λ g h. g.random ≡ r → Keeps g h) gs hs) → Each (MendsOne p m) gs hs
-  joined [] [] given others tabled = tt
-  joined [] (h ∷ hs) given others tabled = absurd given
-  joined (g ∷ gs) [] given others tabled = absurd given
-  joined (g ∷ gs) (h ∷ hs) given others tabled = (
-    record { given = given.0; others = others.0; tabled = λ r has. (tabled r has).0 },
-    joined gs hs given.1 others.1 (λ r has. (tabled r has).1),
-  )
+      joined : (gs hs : List Gear) → Each IsGivenNone gs hs → Each (λ g h. has_short m.short g.short ≡ false → Keeps g h) gs hs
+          → ((r : ℕ) → IsTabled p m.short r → Each (λ g h. g.random ≡ r → Keeps g h) gs hs) → Each (MendsOne p m) gs hs
+      joined [] [] given others tabled = tt
+      joined [] (h ∷ hs) given others tabled = absurd given
+      joined (g ∷ gs) [] given others tabled = absurd given
+      joined (g ∷ gs) (h ∷ hs) given others tabled = (
+        record { given = given.0; others = others.0; tabled = λ r has. (tabled r has).0 },
+        joined gs hs given.1 others.1 (λ r has. (tabled r has).1),
+      )
 
 all_mend : (p : Plan) (ms : List Mended) (s : Site) → AreSpared p ms → Each (Mends p ms) s.gear (all_mended ms s).gear
 all_mend p [] s spared =
@@ -205,12 +205,12 @@ module _ (p : Plan) (ms : List Mended) (s : Site) (gear : p.gear ≡ map gear_se
       let (u, at_u, had) = was_short i a x at first in
       let (v, at_v, had_too) = was_short j a y there_too second in
       go (plan.shorts i j a u v at_u at_v had had_too) where
-    go : (i ≡ j) ⊎ IsMended a ms → i ≡ j
-    go (inl is) = is
-    go (inr mended) =
-        let (r, other, have) = alone a mended in
-        differ_at number (map gear_seen (all_mended ms s).gear) drawn i j r x y at there_too (number_is x r (have i x at first) other)
-        (number_is y r (have j y there_too second) other)
+        go : (i ≡ j) ⊎ IsMended a ms → i ≡ j
+        go (inl is) = is
+        go (inr mended) =
+            let (r, other, have) = alone a mended in
+            differ_at number (map gear_seen (all_mended ms s).gear) drawn i j r x y at there_too (number_is x r (have i x at first) other)
+            (number_is y r (have j y there_too second) other)
 
   -- who has a reserved address has its number
   has_number : (c a r i : ℕ) (y : Seen) → p.reserved c a ≡ Some r → slice_get (map gear_seen (all_mended ms s).gear) i ≡ Some y
