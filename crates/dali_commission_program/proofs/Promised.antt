@@ -17,18 +17,18 @@ keep_promise : ProgramsKeep → (k : Kept) (acts : List Act) → AreOwn (sender_
 keep_promise law k acts lawful p c ours own all ms plan fits follows is are others rest =
     law p ours own all ms plan (λ d of.
     ⊎_elim (λ same. subst (λ e. IsProgram p e (own e) (all e) ms) (sym same) (program p c own all ms fits follows is are)) (λ it. it) (others d of)) rest where
-  program : (p : Plan) (c : ℕ) (own : ℕ → Own) (all : ℕ → List Act) (ms : List Moment) → Fits p c k → Follows c (sender_of k) acts ms
-      → own c ≡ sender_of k → all c ≡ acts → IsProgram p c (own c) (all c) ms
-  program p c own all ms fits follows is are =
-      subst (λ v. IsProgram p c v (all c) ms) (sym is)
-      (subst (λ a. IsProgram p c (sender_of k) a ms) (sym are) (record {
-        block = fits.block;
-        reserved = fits.reserved;
-        idle = refl;
-        untold = refl;
-        own = lawful;
-        follows = follows;
-      }))
+      program : (p : Plan) (c : ℕ) (own : ℕ → Own) (all : ℕ → List Act) (ms : List Moment) → Fits p c k → Follows c (sender_of k) acts ms
+          → own c ≡ sender_of k → all c ≡ acts → IsProgram p c (own c) (all c) ms
+      program p c own all ms fits follows is are =
+          subst (λ v. IsProgram p c v (all c) ms) (sym is)
+          (subst (λ a. IsProgram p c (sender_of k) a ms) (sym are) (record {
+            block = fits.block;
+            reserved = fits.reserved;
+            idle = refl;
+            untold = refl;
+            own = lawful;
+            follows = follows;
+          }))
 
 pub asks_on_bus : ProgramsKeep → (x y : Talk) → AsksByRules x y → AsksOnBus x y
 asks_on_bus law x y it = (it.acts, it.done, λ k. keep_promise law k it.acts (it.own (sender_of k)))

@@ -11,7 +11,8 @@ use Rattle.dali_reserve.specs.Store.{IsReplay, replay_of}
 use Rattle.dali_statement.specs.Own.{Own, Act, Begins, own_all, AreOwn}
 use Rattle.dali_controller.proofs.Acts.{own_both}
 use Rattle.dali_commissioning.specs.Acts.{acts_by, acts_of_runs, records_of, sender_of, outstanding, RunsKeepRules, RunsLeaveRules, IsLeftRun, IsLast}
-use Rattle.dali_commissioning.specs.{Conducted.Stays, Conducted.Commits, Done.AreDone, Drivers.Talk, Runs.IsRead, Steps.last_order, Steps.order_line, Steps.open_after}
+use Rattle.dali_commissioning.specs.{Conducted.Stays, Conducted.Commits, Done.AreDone, Drivers.Talk, Runs.IsRead}
+use Rattle.dali_commissioning.specs.Steps.{last_order, order_line, open_after}
 use Rattle.dali_commissioning.specs.declared.fault.CommissionFault.{CommissionFault}
 use Rattle.dali_commissioning.specs.Rules.{AsksByRules, PutsByRules, IsTextOf, LeavesByRules}
 use Rattle.dali_commissioning.proofs.{Acts.records_both, Done.done_both, Done.anew_done, Done.runs_done, Steps.stays_further}

@@ -1,4 +1,4 @@
-use Rattle.std.proofs.Common.{◌≡◌, ◌≢◌, ◌⊎◌, inl, inr, ℕ, zero, suc, ◌<◌, ◌==◌, ◌&&◌, ◌||◌, not, nat_lt, if◌then◌else◌, Bool, true, false}
+use Rattle.std.proofs.Common.{◌≡◌, ◌≢◌, ◌⊎◌, inl, inr, ⊎_elim, ℕ, zero, suc, ◌<◌, ◌==◌, ◌&&◌, ◌||◌, not, nat_lt, if◌then◌else◌, Bool, true, false}
 use Rattle.std.proofs.Common.{refl, sym, ap, subst, ◌∙◌, map, List, [], ◌∷◌, Option, Some, None, slice_get}
 use Rattle.std.specs.{List.{list_any, list_all}, Prelude.unwrap_or}
 use Rattle.dali_gear.specs.Gear.{Gear, has_short}
@@ -13,18 +13,6 @@ use Rattle.dali_mending.proofs.Tabled.{all_tabled_keep, none_is_given}
 -- GEAR THAT WERE MENDED ARE THOSE OF A PLAN AGAIN.
 
 -- ---------------------------------------------------------------- rows
-
-each_both : (P Q : Gear → Gear → Type 0) (gs hs : List Gear) → Each P gs hs → Each Q gs hs → Each (λ g h. P g h × Q g h) gs hs
-each_both P Q [] [] p q = tt
-each_both P Q [] (h ∷ hs) p q = absurd p
-each_both P Q (g ∷ gs) [] p q = absurd p
-each_both P Q (g ∷ gs) (h ∷ hs) p q = ((p.0, q.0), each_both P Q gs hs p.1 q.1)
-
-each_all : (P : ℕ → Gear → Gear → Type 0) (gs hs : List Gear) → ((r : ℕ) → Each (P r) gs hs) → Each (λ g h. (r : ℕ) → P r g h) gs hs
-each_all P [] [] p = tt
-each_all P [] (h ∷ hs) p = absurd (p 0)
-each_all P (g ∷ gs) [] p = absurd (p 0)
-each_all P (g ∷ gs) (h ∷ hs) p = (λ r. (p r).0, each_all P gs hs (λ r. (p r).1))
 
 each_then : (P Q K : Gear → Gear → Type 0) → ((g h i : Gear) → P g h → Q h i → K g i) → (gs hs is : List Gear) → Each P gs hs → Each Q hs is
     → Each K gs is
@@ -105,19 +93,17 @@ mends_on p m ms g h i one more = record {
 one_mends : (p : Plan) (m : Mended) (s : Site) → ((r : ℕ) → IsTabled p m.short r → AllSpare r m.sendings)
     → Each (MendsOne p m) s.gear (all_sent m.short m.sendings s).gear
 one_mends p m s spares =
-    let after = (all_sent m.short m.sendings s).gear in
-    let T : ℕ → Gear → Gear → Type 0 = λ r g h. IsTabled p m.short r → g.random ≡ r → Keeps g h in
-    joined s.gear after (none_is_given m.short m.sendings s) (all_others_keep m.short m.sendings s)
+    joined s.gear (all_sent m.short m.sendings s).gear (none_is_given m.short m.sendings s) (all_others_keep m.short m.sendings s)
     (λ r has. all_tabled_keep m.short r m.sendings s (spares r has)) where
-  joined : (gs hs : List Gear) → Each IsGivenNone gs hs → Each (λ g h. has_short m.short g.short ≡ false → Keeps g h) gs hs
-      → ((r : ℕ) → IsTabled p m.short r → Each (λ g h. g.random ≡ r → Keeps g h) gs hs) → Each (MendsOne p m) gs hs
-  joined [] [] given others tabled = tt
-  joined [] (h ∷ hs) given others tabled = absurd given
-  joined (g ∷ gs) [] given others tabled = absurd given
-  joined (g ∷ gs) (h ∷ hs) given others tabled = (
-    record { given = given.0; others = others.0; tabled = λ r has. (tabled r has).0 },
-    joined gs hs given.1 others.1 (λ r has. (tabled r has).1),
-  )
+      joined : (gs hs : List Gear) → Each IsGivenNone gs hs → Each (λ g h. has_short m.short g.short ≡ false → Keeps g h) gs hs
+          → ((r : ℕ) → IsTabled p m.short r → Each (λ g h. g.random ≡ r → Keeps g h) gs hs) → Each (MendsOne p m) gs hs
+      joined [] [] given others tabled = tt
+      joined [] (h ∷ hs) given others tabled = absurd given
+      joined (g ∷ gs) [] given others tabled = absurd given
+      joined (g ∷ gs) (h ∷ hs) given others tabled = (
+        record { given = given.0; others = others.0; tabled = λ r has. (tabled r has).0 },
+        joined gs hs given.1 others.1 (λ r has. (tabled r has).1),
+      )
 
 all_mend : (p : Plan) (ms : List Mended) (s : Site) → AreSpared p ms → Each (Mends p ms) s.gear (all_mended ms s).gear
 all_mend p [] s spared =
@@ -128,11 +114,10 @@ all_mend p (m ∷ ms) s spared =
 
 -- ---------------------------------------------------------------- the plan
 
-number : Seen → Option ℕ
+abbrev number : Seen → Option ℕ
 number g = if g.random == 0xFFFFFF then None else Some g.random
 
 number_is : (g : Seen) (r : ℕ) → g.random ≡ r → r ≢ 0xFFFFFF → number g ≡ Some r
-unfolding number
 number_is g r is other = go (g.random == 0xFFFFFF) refl where
   go : (t : Bool) → (g.random == 0xFFFFFF) ≡ t → (if t then None else Some g.random) ≡ Some r
   go true e = absurd (other (sym is ∙ equal g.random 0xFFFFFF e))
@@ -158,10 +143,7 @@ is_mended a (m ∷ ms) = go (is_it m.short a) (is_mended a ms) where
   go : (m.short ≡ a) ⊎ (m.short ≡ a → ⊥) → IsMended a ms ⊎ (IsMended a ms → ⊥) → IsMended a (m ∷ ms) ⊎ (IsMended a (m ∷ ms) → ⊥)
   go (inl it) later = inl (inl it)
   go (inr other) (inl it) = inl (inr it)
-  go (inr other) (inr none) = inr none_of where
-    none_of : IsMended a (m ∷ ms) → ⊥
-    none_of (inl it) = other it
-    none_of (inr it) = none it
+  go (inr other) (inr none) = inr (⊎_elim other none)
 
 kept_short : (g h : Gear) (a : ℕ) → IsGivenNone g h → h.short ≡ Some a → g.short ≡ Some a
 kept_short g h a (inl is) has = sym is ∙ has
@@ -170,9 +152,6 @@ kept_short g h a (inr none) has = absurd (let no : None ≡ Some a = sym none �
 module _ (p : Plan) (ms : List Mended) (s : Site) (gear : p.gear ≡ map gear_seen s.gear) (plan : IsPlanBut (λ a. IsMended a ms) p)
     (spared : AreSpared p ms) (drawn : are_apart (map gear_seen (all_mended ms s).gear) ≡ true)
     (alone : (a : ℕ) → IsMended a ms → IsOneNumber a (map gear_seen (all_mended ms s).gear)) where
-  now : List Seen
-  now = map gear_seen (all_mended ms s).gear
-
   -- a gear that is seen now, and what it was
   was : (i : ℕ) (y : Seen) → slice_get (map gear_seen (all_mended ms s).gear) i ≡ Some y
       → (g : Gear) × (h : Gear) × (slice_get p.gear i ≡ Some (gear_seen g)) × (y ≡ gear_seen h) × Mends p ms g h
@@ -205,12 +184,12 @@ module _ (p : Plan) (ms : List Mended) (s : Site) (gear : p.gear ≡ map gear_se
       let (u, at_u, had) = was_short i a x at first in
       let (v, at_v, had_too) = was_short j a y there_too second in
       go (plan.shorts i j a u v at_u at_v had had_too) where
-    go : (i ≡ j) ⊎ IsMended a ms → i ≡ j
-    go (inl is) = is
-    go (inr mended) =
-        let (r, other, have) = alone a mended in
-        differ_at number (map gear_seen (all_mended ms s).gear) drawn i j r x y at there_too (number_is x r (have i x at first) other)
-        (number_is y r (have j y there_too second) other)
+        go : (i ≡ j) ⊎ IsMended a ms → i ≡ j
+        go (inl is) = is
+        go (inr mended) =
+            let (r, other, have) = alone a mended in
+            differ_at number (map gear_seen (all_mended ms s).gear) drawn i j r x y at there_too (number_is x r (have i x at first) other)
+            (number_is y r (have j y there_too second) other)
 
   -- who has a reserved address has its number
   has_number : (c a r i : ℕ) (y : Seen) → p.reserved c a ≡ Some r → slice_get (map gear_seen (all_mended ms s).gear) i ≡ Some y

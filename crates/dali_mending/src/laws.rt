@@ -6,7 +6,8 @@ ghost use Rattle.dali_gear.specs.Gear.{has_short};
 ghost use Rattle.dali_mending.specs.declared.course.Course.{Course};
 ghost use Rattle.dali_mending.specs.Course.{IsCourse, Spares};
 ghost use Rattle.dali_gear.specs.declared.row.Reach.TheVariants.{Everyone};
-ghost use Rattle.dali_mending.specs.Planned.{Mended, all_mended, IsMended, AreSpared, IsOneNumber, IsPlanBut, with_gear};
+ghost use Rattle.dali_mending.specs.Planned.{Mended, all_mended, IsMended, AreSpared, IsOneNumber, IsPlanBut};
+ghost use Rattle.dali_mending.specs.Planned.{with_gear};
 ghost use Rattle.dali_mending.specs.Transactions.{beginning};
 ghost use Rattle.dali_statement.specs.Gear.{gear_seen};
 ghost use Rattle.dali_statement.specs.Page.{Gear, IsPlan, Plan, are_apart};
@@ -45,7 +46,7 @@ pub fn mendings_spare_the_gear_of_the_table()
     ensures { (c : Course) (r : ℕ) → IsCourse c → c.table ≡ Some r → Spares r c.stage }
 {}
 
-/// GEAR THAT WERE MENDED ARE THOSE OF A PLAN OF THE PAGE AGAIN (`IsPlan` of `dali_statement`), with the records that are
+/// GEAR THAT WERE MENDED ARE THOSE OF A PLAN OF THE PAGE (`IsPlan` of `dali_statement`), with the records that are
 /// there: short addresses were mended one after the other, by whatever transactions were sent. Gear may share these
 /// addresses before, but no others (`IsPlanBut`). Then one number alone must be at each of them, no two gear may have
 /// one number, and each mending must have spared the gear of all tables. So histories of the page may begin there.
