@@ -1,7 +1,7 @@
 //! A swap of files of records, its journal, and the names of what lies beside a file.
 
-ghost use Rattle.std.specs.Prelude.{◌≡◌, ◌≤◌, ◌<◌, ◌^◌, ℕ, List, ◌∷◌, ◌++◌, ◌↔◌, true, IsOk, IfOk, IsSomeAnd, MatchOption, OnOk};
-ghost use Rattle.std.specs.Prelude.{IsTrue, codes, decimal, length, map, min, string_bytes, vec_len};
+ghost use Rattle.std.specs.Prelude.{◌≡◌, ◌≤◌, ◌<◌, ◌^◌, ◌↔◌, ℕ, List, ◌∷◌, ◌++◌, true, IsTrue, IsOk, IfOk, OnOk};
+ghost use Rattle.std.specs.Prelude.{IsSomeAnd, MatchOption, codes, decimal, length, map, min, string_bytes, vec_len};
 ghost use Rattle.dali_script.specs.Records.{Has};
 ghost use Rattle.dali_replacement.specs.Permit.{confirmed_at, confirmed_random, confirmed_table};
 ghost use Rattle.dali_replacement.specs.Tables.{IsComplete, IsGathered};
@@ -214,7 +214,8 @@ impl Swap {
 
     /// The swap that a journal is of, whose text is this one, byte by byte. None if it is none.
     pub fn read(alloc: Global, text: &str) -> Result<Option<Swap>, AllocError>
-        ensures { IfOk result (λ read. MatchOption read ((swap : Swap) → IsReadable swap → swap_text swap ≡ text.now → ⊥)
+        ensures { IfOk result (λ read. MatchOption read
+            ((swap : Swap) → IsReadable swap → swap_text swap ≡ text.now → ⊥)
             (λ swap. swap_text swap ≡ text.now)) }
     {
         let Some(head) = numbers_in(text) else {
