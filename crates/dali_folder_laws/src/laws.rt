@@ -62,9 +62,9 @@ pub fn a_folder_goes_from_moment_to_moment()
         → IsAt swap files m x → IsMoment Sees swap (starting x) l → l ≡ m }
 {}
 
-/// FILES THAT ARE PUT ASIDE OVER A CRASH. Whenever it is stopped, each name has what it had; or it has nothing, and what
-/// it had is kept. If it is not stopped, each file that was there and not empty is put aside (`away`): so a later call
-/// puts aside what an earlier one has left, and after any number of them no file is lost (`often`).
+/// FILES THAT ARE PUT ASIDE OVER A CRASH. Whenever it is stopped, each name has what it had; or it has nothing, and
+/// what it had is kept. If it is not stopped, each file that was there and not empty is put aside (`away`): so a later
+/// call puts aside what an earlier one has left, and after any number of them no file is lost (`often`).
 pub fn what_is_put_aside_is_not_lost()
     ensures kept { (records names : List (String Global)) (number : ℕ) (x : Folder) (y : Program) (at had : List ℕ)
         → PutsAside records names number x y → x at ≡ Some had → HasStill number x y.folder at had }
