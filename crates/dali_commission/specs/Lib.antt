@@ -1,4 +1,3 @@
 pub mod Faults
 pub mod Logs
-pub mod Lying
 pub mod Opened

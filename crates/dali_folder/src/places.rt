@@ -1,10 +1,11 @@
 //! Where a file lies.
 
 ghost use Rattle.std.specs.Prelude.{ℕ, List, IfOk, string_bytes};
-ghost use Rattle.dali_commission.specs.Lying.{IsParted, IsJoined, IsLed, Lies};
+ghost use Rattle.dali_folder.specs.Lying.{IsParted, IsJoined, IsLed, Lies};
 
-use std::alloc::{AllocError, Global};
+use std::alloc::{Alloc, AllocError, Global};
 use std::fs;
+use std::fs::Files;
 
 /// How many links are followed.
 const LINKS: u8 = 8;
@@ -51,7 +52,7 @@ fn led(alloc: Global, name: &str, to: &str) -> Result<String, AllocError>
 
 /// The name under which a file lies, from the root on, whatever links lead there; it need not be there. If its
 /// folder is not there, it is the name itself.
-pub(crate) fn place(rt: &HostRuntime, alloc: Global, name: &str) -> Result<String, AllocError>
+pub fn place<R: Files + Alloc>(rt: &R, alloc: Global, name: &str) -> Result<String, AllocError>
     ensures { IfOk result (λ at. Lies name.now (string_bytes at)) }
 {
     let mut at = String::from_str(alloc, name)?;

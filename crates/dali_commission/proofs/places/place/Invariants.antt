@@ -1,6 +1,0 @@
-use Rattle.std.proofs.Common.{ℕ, string_bytes, ◌≤◌}
-use Rattle.dali_commission.specs.Lying.{AreLed}
-use Rattle.dali_commission.proofs.places.place.Given as goal
-
-abbrev pub invariant-loop : goal.invariant-loop
-invariant-loop l = (links : ℕ) × (links ≤ l.counter) × AreLed links l.fn.name (string_bytes l.at)
