@@ -4,3 +4,5 @@ mod Stopped
 mod Looked
 mod Over
 mod Truths
+mod Asides
+mod Apart

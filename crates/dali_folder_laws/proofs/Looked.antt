@@ -56,7 +56,7 @@ there : (b : Bool) (it : List ℕ) → is_some (if_there b it) ≡ b
 there true it = refl
 there false it = refl
 
-counted : (swap : Swap) → length (names_of swap) ≤ 64 → count_of swap ≡ length (names_of swap)
+pub counted : (swap : Swap) → length (names_of swap) ≤ 64 → count_of swap ≡ length (names_of swap)
 counted swap most = omega (arith, most)
 
 -- WHAT IS SEEN of a folder at a moment is what lies there then

@@ -89,7 +89,7 @@ goes_back swap files (suc m) x y apart inside (z, (name, named, (w, call, end)),
     goes_back swap files m z y apart (omega (arith, inside)) rest (subst (λ (p : Program). Stands swap files m p) end at)
 
 -- a program that was stopped goes on nowhere
-none_done : (calls : List Call) (x y : Program) → AreMade Makes calls x y → x.runs ≡ false
+pub none_done : (calls : List Call) (x y : Program) → AreMade Makes calls x y → x.runs ≡ false
     → (y.runs ≡ false) × IsSame x.folder y.folder
 none_done [] x y same stopped = subst (λ (p : Program). (p.runs ≡ false) × IsSame x.folder p.folder) same (stopped, λ at. refl)
 none_done (call ∷ more) x y (z, first, rest) stopped =

@@ -1,4 +1,4 @@
-use Rattle.std.specs.Prelude.{◌≡◌, ◌≢◌, ◌⊎◌, ℕ, true, List, Option, Some, None, is_some}
+use Rattle.std.specs.Prelude.{◌≡◌, ◌≢◌, ◌⊎◌, ℕ, true, List, [], Option, Some, None, is_some}
 use Rattle.dali_commission_stores.specs.Calls.{Call, Wrote, Renamed, Likened, Removed}
 use Rattle.dali_commission_stores.specs.Calls.{Look, Has, Text, Lies, Read}
 
@@ -22,12 +22,13 @@ IsAfter (Renamed from to) x y =
 IsAfter (Likened name to) x y = IsSame x y
 IsAfter (Removed name) x y = (y name ≡ None) × ((at : List ℕ) → at ≢ name → y at ≡ x at)
 
--- A LOOK IS TRUE of a folder; what links lead where, and what records a file has, is no part of it
+-- A LOOK IS TRUE of a folder: what has no file has no records. What links lead where, and what
+-- records a file has, is no part of it.
 abbrev pub IsTrueOf : Look → Folder → Type 0
 IsTrueOf (Has name answer) x = answer ≡ is_some (x name)
 IsTrueOf (Text name text) x = text ≡ x name
 IsTrueOf (Lies name at) x = Unit {0}
-IsTrueOf (Read name kept) x = Unit {0}
+IsTrueOf (Read name kept) x = x name ≡ None → (kept.reserved ≡ []) × (kept.enrolled ≡ [])
 
 -- WHAT A STOP WITHIN A CALL LEAVES: the folder as it was before the call, or as after it
 abbrev pub Leaves : Call → Folder → Folder → Type 0

@@ -1,5 +1,5 @@
-use Rattle.std.specs.Prelude.{◌≡◌, ◌≤◌, ◌<◌, ℕ, ◌*◌, Bool, true, false, if◌then◌else◌, List, length}
-use Rattle.std.specs.Prelude.{Option, Some, None}
+use Rattle.std.specs.Prelude.{◌≡◌, ◌≢◌, ◌≤◌, ◌<◌, ℕ, ◌*◌, Bool, true, false, if◌then◌else◌, List}
+use Rattle.std.specs.Prelude.{length, Option, Some, None}
 use Rattle.dali_replacement.specs.declared.swap.Lies.{Lies}
 use Rattle.dali_replacement.specs.declared.swapping.Swap.{Swap}
 use Rattle.dali_replacement.specs.Swap.{lies_at}
@@ -32,9 +32,14 @@ AreApart swap =
     (i j : ℕ) (p q : Part) (at : List ℕ) → IsPart swap i p at → IsPart swap j q at
     → (i ≡ j) × (p ≡ q)
 
--- A SWAP THAT MAY BEGIN has from one up to 64 files, whose names are apart
+-- NO TWO FILES have one name, and none has that of another one's new file
+abbrev pub Differ : Swap → Type 0
+Differ swap =
+    (i j : ℕ) (name other : List ℕ) → IsNamed swap i name → IsNamed swap j other
+    → (name ≡ other → i ≡ j) × (name ≢ new_at other)
+
+-- A SWAP THAT MAY BEGIN has 64 files at most, whose names are apart
 pub record MayBegin (swap : Swap) : Type 0 where
-  pub some : 0 < length (names_of swap)
   pub most : length (names_of swap) ≤ 64
   pub apart : AreApart swap
 
