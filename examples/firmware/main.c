@@ -261,6 +261,17 @@ static void bound(uint64_t seed)
     must(node.state == NODE_BUS_FAILS && node.frames == NODE_MOST_FRAMES + 1, "the runs have no bound");
 }
 
+/* All gear have addresses from another controller, so that a survey hears none once it has enrolled them: a controller asks them. */
+static void find(uint64_t seed)
+{
+    begin(seed);
+    for (uint32_t at = 0; at < bus.gear_count; at++) {
+        bus.gear[at].random_address = 3 * at;
+        bus.gear[at].short_byte = (uint8_t)(2 * at + 1);
+    }
+    must(live(FOR_GOOD) == NODE_READY && node.asked == 2, "a controller does not ask gear that a survey does not");
+}
+
 /* Every address of the block is another gear's: a controller says so. */
 static void fill(uint64_t seed)
 {
@@ -278,6 +289,7 @@ int main(void)
         commission(SEED + run);
         fail(SEED + run);
         lose(SEED + run);
+        find(SEED + run);
     }
     bound(SEED);
     fill(SEED);

@@ -1,7 +1,6 @@
 /* A controller as a task of firmware. One task alone calls these functions, and it owns the node. */
 #include "node.h"
 
-#define QUIET_RUNS 3
 /* How often each gear of the table is asked at last, if none answers. */
 #define ROUNDS 3
 /* What tells the first byte of a random address. */
@@ -42,14 +41,6 @@ static void answer_asked(struct node *node, uint8_t input)
         ask_next(node);
 }
 
-/* A run has found all gear. Whether the runs are over. */
-static int is_last(struct node *node)
-{
-    node->quiet_runs = node->has_committed ? 0 : node->quiet_runs + 1;
-    node->has_committed = 0;
-    return node->quiet_runs == QUIET_RUNS;
-}
-
 /* A new machine with the records of the one before. */
 static int run_again(struct node *node)
 {
@@ -58,26 +49,18 @@ static int run_again(struct node *node)
     return dali_machine_records(&node->machine, &records) == DALI_OK && dali_machine_new(&node->machine, &records) == DALI_OK;
 }
 
-/* A run has found all gear. 1 if another one is to begin, by a survey. */
-static int goes_on(struct node *node)
+/* No run is to follow. */
+static void finish(struct node *node, uint8_t next, const struct dali_order *order)
 {
-    if (is_last(node)) {
-        node->asked = 0;
+    node->asked = 0;
+    if (next == DALI_NEXT_ASK)
         ask_next(node);
-        return 0;
-    }
-    if (run_again(node))
-        return 1;
-    node->state = NODE_FAILED;
-    return 0;
-}
-
-/* A run has ended otherwise than with all gear found. */
-static enum node_state state_at(const struct dali_order *order)
-{
-    if (order->kind == DALI_DONE)
-        return order->reason == DALI_BLOCK_FULL ? NODE_BLOCK_FULL : NODE_BUS_FAILS;
-    return order->reason == DALI_CONFLICT ? NODE_CONFLICT : NODE_FAILED;
+    else if (next == DALI_NEXT_READY)
+        node->state = NODE_READY;
+    else if (order->kind == DALI_DONE && next == DALI_NEXT_ENDED)
+        node->state = order->reason == DALI_BLOCK_FULL ? NODE_BLOCK_FULL : NODE_BUS_FAILS;
+    else
+        node->state = order->kind == DALI_HALT && order->reason == DALI_CONFLICT ? NODE_CONFLICT : NODE_FAILED;
 }
 
 /* No transaction runs while a record is written, so the bus waits for nothing. */
@@ -85,7 +68,6 @@ static uint8_t keep(struct node *node, const struct dali_record *record)
 {
     struct dali_records standing;
 
-    node->has_committed = 1;
     if (dali_machine_records(&node->machine, &standing) == DALI_OK && pages_keep(&node->pages, &standing, record))
         return DALI_COMMITTED;
     return DALI_COMMIT_FAILED;
@@ -94,6 +76,7 @@ static uint8_t keep(struct node *node, const struct dali_record *record)
 void node_told(struct node *node, uint8_t input, uint8_t byte)
 {
     struct dali_order order;
+    uint8_t next;
 
     if (node->is_asking) {
         answer_asked(node, input);
@@ -101,7 +84,8 @@ void node_told(struct node *node, uint8_t input, uint8_t byte)
     }
     for (;;) {
         /* The struct is this task's alone, so it needs no test before each step. */
-        if (dali_machine_go(&node->machine, input, byte, &order) != DALI_OK) {
+        if (dali_machine_go(&node->machine, input, byte, &order) != DALI_OK
+            || dali_passes_step(&node->passes, input, &order, &next) != DALI_OK) {
             node->state = NODE_FAILED;
             return;
         }
@@ -111,12 +95,10 @@ void node_told(struct node *node, uint8_t input, uint8_t byte)
         }
         if (order.kind == DALI_COMMIT) {
             input = keep(node, &order.record);
-        } else if (order.kind == DALI_DONE && order.reason == DALI_ALL_FOUND) {
-            if (!goes_on(node))
-                return;
+        } else if (order.kind == DALI_DONE && next == DALI_NEXT_RUN && run_again(node)) {
             input = DALI_SURVEY;
         } else {
-            node->state = state_at(&order);
+            finish(node, next, &order);
             return;
         }
     }
@@ -127,11 +109,10 @@ void node_begin(struct node *node, uint8_t first, uint8_t last, uint8_t start)
     struct dali_records records;
 
     node->state = NODE_FAILED;
-    node->has_committed = 0;
-    node->quiet_runs = 0;
     node->is_asking = 0;
     node->frames = 0;
-    if (dali_c_version() != DALI_C_VERSION || dali_records_new(&records, first, last) != DALI_OK)
+    if (dali_c_version() != DALI_C_VERSION || dali_records_new(&records, first, last) != DALI_OK
+        || dali_passes_new(&node->passes) != DALI_OK)
         return;
     if (pages_open(&node->pages, &records) != PAGES_OPEN || dali_machine_new(&node->machine, &records) != DALI_OK)
         return;

@@ -24,9 +24,7 @@ struct node {
     enum node_state state;
     struct dali_machine machine;
     struct pages pages;
-    /* Whether this run has ordered a commit, and how many before it found all gear and ordered none. */
-    int has_committed;
-    int quiet_runs;
+    struct dali_passes passes;
     /* How often gear of the table were asked since the last run, and whether one is asked now. */
     int asked;
     int is_asking;
