@@ -11,7 +11,9 @@ import tempfile
 import lines
 
 ROOT = pathlib.Path(__file__).resolve().parents[1]
-HEADER, ARCHIVE = ROOT / "include/dali_c.h", ROOT / "crates/dali_c/out/libdali_c.a"
+HEADER = ROOT / "include/dali_c.h"
+# Where tools/build and `rt lib` put the library, and where tools/package leaves it.
+ARCHIVES = ROOT / "crates/dali_c/out/libdali_c.a", ROOT / "out/dali_c/built.a"
 # Sizes of its structs, and what a window tells.
 LEVELS, WINDOW, ANSWER = 40, 16, 3
 OK, SILENCE, BYTE = 0, 1, 2
@@ -31,12 +33,18 @@ def linked(source: pathlib.Path, *words: str | pathlib.Path) -> collections.abc.
         yield made
 
 
-class Library:
-    """Calls of the library."""
+def built() -> pathlib.Path:
+    """The newest archive that was built here."""
+    return max((it for it in ARCHIVES if it.exists()), key=lambda it: it.stat().st_mtime, default=ARCHIVES[0])
 
-    def __init__(self, archive: pathlib.Path = ARCHIVE) -> None:
+
+class Library:
+    """Calls of the library, of the archive that was built here unless another is named."""
+
+    def __init__(self, archive: pathlib.Path | None = None) -> None:
+        archive = archive or built()
         if not archive.exists():
-            raise lines.Fault(f"{archive} is missing: (cd crates/dali_c && rt lib) makes it; --archive names that of the package")
+            raise lines.Fault(f"{archive} is missing: tools/build dali_c makes it; --archive names that of the package")
         with linked(archive, "-Wl,-Bsymbolic", "-Wl,--whole-archive", archive, "-Wl,--no-whole-archive") as made:
             self.calls = ctypes.CDLL(str(made))
         wanted = int(re.search(r"#define DALI_C_VERSION (\d+)", HEADER.read_text())[1])

@@ -25,6 +25,19 @@ SAID = {
 }
 
 
+# The priority that a driver asks for, of 1 to 99.
+PRIORITY = 50
+
+
+def ask_for_priority() -> str | None:
+    """Asks for a real-time priority, so that transfers are not late on a loaded machine. Why there is none, or None."""
+    try:
+        os.sched_setscheduler(0, os.SCHED_FIFO, os.sched_param(PRIORITY))
+    except OSError as why:
+        return f"no real-time priority ({why.strerror}): on a loaded machine frames are late and told as destroyed. Root may have it, and `chrt -f {PRIORITY}` gives it"
+    return None
+
+
 class Port:
     """An open port. What goes wrong with it is a fault that ends the driver."""
 

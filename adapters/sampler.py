@@ -8,7 +8,7 @@ import typing
 import lines
 from library import Library
 from port import Port
-from samples import HALF, Samples, at_least, micros
+from samples import DELAY, HALF, Samples, at_least, micros
 
 RANDOMISE, PRESENT = b"\xA7\x00", b"\xFF\x91"
 # How long the bus is at rest before a frame of each priority. The later frames of a transaction have priority 1.
@@ -25,10 +25,15 @@ NOTICE, DEAF = 1_250, 10_000
 LATE = 60
 # A first frame waits so long for the bus. A bus without power is low for so long.
 PATIENCE, DEAD = 2_000_000, 500_000
+# What is said of a bus that is low all the time, or that each transfer drives while it should leave it at rest.
+LOW = "the bus has no power: it is low all the time. Or --inverted-in or --inverted-out is wrong"
+PULLED = {False: "each transfer drives the bus low: --inverted-out is wrong", True: "each transfer drives the bus low: --inverted-out and --inverted-in are wrong"}
 # How many transfers a test of the port makes.
 MANY = 50
-# The lengths in bytes by which the clock is measured, and by which part it may be wrong.
+# The least and the greatest length in bytes by which the clock is measured, besides those of frames; by which part it may be wrong.
 SHORT, LONG, TRIES, PART = 32, 1056, 3, 100
+# How often it is measured until it is refused.
+ROUNDS = 10
 
 
 def framed(halves: list[bool], is_question: bool, speed: int) -> Samples:
@@ -70,12 +75,14 @@ class Ear:
         return heard, over - self.least[out.count]
 
     def check_power(self, heard: Samples, begun: int) -> None:
-        if not heard.is_dead:
+        """Ends if for a long time each transfer found the bus low, or changed as soon as the port drove it."""
+        is_pulled = len(heard.edges) == 1 and micros(heard.edges[0], self.speed) <= DELAY
+        if not heard.is_dead and not is_pulled:
             self.dead = None
             return
         self.dead = begun if self.dead is None else self.dead
         if self.ended - self.dead > DEAD:
-            raise lines.Fault("the bus has no power: it is low all the time. Or --inverted-in is wrong")
+            raise lines.Fault(PULLED[heard.is_low] if is_pulled else LOW)
 
     def refuse_clock(self, found: float) -> typing.NoReturn:
         raise lines.Fault(f"the clock of {self.port.device} is {found:.0f} Hz, and not {self.speed}: fix it, or take another --speed")
@@ -90,17 +97,27 @@ class Ear:
         self.is_lost |= not heard.is_quiet
         return heard
 
+    def took(self, count: int) -> int:
+        """How long a transfer of so many samples takes at least."""
+        late = min([self.exchange(Samples(count, False, []))[1] for _ in range(TRIES)])
+        return micros(count, self.speed) + self.least[count] + late
+
+    def rates(self) -> list[float]:
+        """How many samples the port takes in a second, by transfers of unlike length, and by those of frames: some ports take another clock for
+        short ones."""
+        frames = [framed([False] * MOST_HALVES, it, self.speed).count for it in (False, True)]
+        found = {count: self.took(count) for count in (8 * SHORT, 8 * LONG, *frames)}
+        return [(more - less) * 1_000_000 / (found[more] - found[less]) for less, more in ((8 * SHORT, 8 * LONG), frames)]
+
     def clock(self) -> float:
-        """How many samples the port takes in a second, by transfers of unlike length. It refuses a wrong clock."""
-        took = []
-        for count in (8 * SHORT, 8 * LONG):
-            late = min([self.exchange(Samples(count, False, []))[1] for _ in range(TRIES)])
-            took.append(micros(count, self.speed) + self.least[count] + late)
-        found = 8 * (LONG - SHORT) * 1_000_000 / (took[1] - took[0])
-        if abs(found - self.speed) * PART > self.speed:
-            self.refuse_clock(found)
-        self.is_lost = True
-        return found
+        """How many samples the port takes in a second. It refuses a wrong clock, if it was found wrong each time."""
+        for _ in range(ROUNDS):
+            found = self.rates()
+            wrong = [it for it in found if abs(it - self.speed) * PART > self.speed]
+            if not wrong:
+                self.is_lost = True
+                return found[0]
+        self.refuse_clock(wrong[0])
 
     def measure(self) -> float:
         """Measures the clock, and how long a transfer with a frame takes."""

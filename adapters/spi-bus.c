@@ -2,12 +2,14 @@
  *
  * SPI_BUS_DEVICE is the path that is taken for the device, SPI_BUS_SOCKET the number of a socket to adapters/spi-bus. Each ioctl of spidev
  * on that device goes there and comes back. As long as it is open CLOCK_MONOTONIC is the time of the simulated bus; it goes on by a
- * transfer, and by the time that the stand-in gives the program for its next line when one is read of standard input. */
+ * transfer, and by the time that the stand-in gives the program for its next line when one is read of standard input. A real-time
+ * priority would slow the machine down, so it is given without effect, or refused if SPI_BUS_PRIORITY is there. */
 #define _GNU_SOURCE
 #include <dlfcn.h>
 #include <errno.h>
 #include <fcntl.h>
 #include <linux/spi/spidev.h>
+#include <sched.h>
 #include <stdarg.h>
 #include <stddef.h>
 #include <stdint.h>
@@ -118,6 +120,15 @@ int ioctl(int file, unsigned long number, ...)
     }
     memcpy(&value, given, _IOC_SIZE(number) < sizeof value ? _IOC_SIZE(number) : sizeof value);
     return (int)asked((uint32_t)number, value, "", 0, 0);
+}
+
+int sched_setscheduler(pid_t process, int policy, const struct sched_param *priority)
+{
+    (void)process, (void)policy, (void)priority;
+    if (!getenv("SPI_BUS_PRIORITY"))
+        return 0;
+    errno = EPERM;
+    return -1;
 }
 
 ssize_t read(int file, void *bytes, size_t count)

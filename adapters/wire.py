@@ -198,7 +198,7 @@ class Wire:
 
     def transfer(self, out: Samples, speed: int) -> Samples:
         """What the port samples while it sends these."""
-        tick = 1_000_000 / speed / self.chosen.clock
+        tick = 1_000_000 / speed / self.chosen.clock * (9 / 8 if out.count < 8 * self.chosen.under else 1)
         begin = self.now + self.chance.uniform(*OVERHEAD)
         at, longer = out.count, 0.0
         if self.happens(self.chosen.pause):
@@ -261,4 +261,5 @@ def add_words(options: argparse.ArgumentParser) -> None:
     ):
         options.add_argument(f"--{name}", type=kind, default=usual, metavar="X", help=f"{what} ({usual})")
     options.add_argument("--clock", type=gear.measure(2), default=1, metavar="X", help="the clock is so many times the one that is asked for")
+    options.add_argument("--under", type=gear.measure(4096), default=0, metavar="N", help="transfers of fewer bytes take 9/8 of their time (0)")
     options.add_argument("--trace", metavar="FILE", help="the levels of the bus, as a value change dump")

@@ -62,7 +62,7 @@ enum dali_status {
 
 /* What a machine is told. */
 enum dali_input {
-    /* To start, in a first run over new gear: those without short address draw random addresses, and are searched. */
+    /* To start, if all gear without short address are to draw random addresses at once; then they are searched. */
     DALI_START = 0,
     /* The frame was sent whole, and within the time of a backward frame nothing was heard; */
     DALI_HEARD_SILENCE = 1,
@@ -78,13 +78,13 @@ enum dali_input {
     DALI_COMMITTED = 6,
     /* The record cannot be kept. */
     DALI_COMMIT_FAILED = 7,
-    /* To start, in place of DALI_START, over gear that may have been used before. The machine asks under each short
+    /* To start, in each run. The machine asks under each short
      * address that is reserved, or that its table does not name, whether gear are there: three times if none answers.
      * Gear that tells a random address is enrolled, whether or not the short address is of the block. Then the gear
      * without short address are searched under the random addresses that they have, and get the address that is
      * reserved for them, or a free one under which no gear was heard. At last, if an address like that is free, those
-     * that are left draw random addresses and are searched. Use it in each run but a first one over new gear. It costs
-     * some six seconds of the bus. */
+     * that are left draw random addresses and are searched. The questions cost some six seconds of the bus; the searches of
+     * many new gear take less than after DALI_START. */
     DALI_SURVEY = 8
 };
 
@@ -151,6 +151,20 @@ enum dali_record_kind {
     DALI_ENROL = 2,
     /* A reservation is given back. */
     DALI_RELEASE = 3
+};
+
+/* What is to be done after a step, by dali_passes_step. */
+enum dali_next {
+    /* What the machine has ordered. */
+    DALI_NEXT_ORDER = 0,
+    /* Another run: a new machine with the records of this one, by DALI_SURVEY. */
+    DALI_NEXT_RUN = 1,
+    /* Nothing. Three runs in a row have found all gear and committed nothing, and a gear has answered in the last one. */
+    DALI_NEXT_READY = 2,
+    /* The same, but none has answered: the bus may have failed. Ask the gear of the table, until one answers. */
+    DALI_NEXT_ASK = 3,
+    /* Nothing. The run ended otherwise: the order says why. */
+    DALI_NEXT_ENDED = 4
 };
 
 /* What a receiver of edges tells. */
@@ -288,6 +302,14 @@ struct dali_table {
     struct dali_pair gear[DALI_ADDRESSES];
 };
 
+/* The runs of a controller, one machine after the other. Make one with dali_passes_new: how many runs up to the last have
+ * found all gear and committed nothing, and whether this one has ordered a commit and has heard a byte. */
+struct dali_passes {
+    uint8_t quiet;
+    uint8_t has_committed;
+    uint8_t has_heard;
+};
+
 /* The levels of a forward frame with its stop condition, half bit by half bit, each 416.7 microseconds long: 1 while
  * the bus is low, 0 while it is high. */
 struct dali_levels {
@@ -382,6 +404,14 @@ uint8_t dali_machine_records(const struct dali_machine *machine, struct dali_rec
 
 /* The enrolment table of a machine. DALI_OTHER_VERSION, DALI_NO_MACHINE: `machine` is no machine's. */
 uint8_t dali_machine_table(const struct dali_machine *machine, struct dali_table *table);
+
+/* WHEN A CONTROLLER IS READY. The runs of a controller, before the first one. */
+uint8_t dali_passes_new(struct dali_passes *passes);
+
+/* A machine was told `input`, and has ordered this: after each step. `next` is of enum dali_next.
+ *
+ * DALI_BAD_ARGUMENT: `passes` has told that no run is to follow, or was not made; or `order` is none. */
+uint8_t dali_passes_step(struct dali_passes *passes, uint8_t input, const struct dali_order *order, uint8_t *next);
 
 /* AT THE PINS, for a driver that sees the edges of the bus. A window tells what a machine is told; a receiver tells
  * each frame, also those of others. `is_low` is the level after an edge: 1 if the bus is low, 0 if it is high.

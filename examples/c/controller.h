@@ -15,8 +15,8 @@ enum run {
     RUN_TOO_LONG = 2
 };
 
-/* Runs a machine that has not started, with the records that were read from this store. It starts by DALI_START, which is
- * for a first run over new gear, or by DALI_SURVEY. */
+/* Runs a machine that has not started, with the records that were read from this store. It starts by DALI_SURVEY, or
+ * by DALI_START, which is only for gear that are to draw anew. */
 enum run controller_run(struct dali_machine *machine, uint8_t start, struct bus *bus, struct store *store,
                         unsigned long most_steps, struct dali_order *last_order);
 

@@ -61,6 +61,7 @@ static void check_layouts(void)
     CHECK_LAYOUT(dali_order, 12);
     CHECK_LAYOUT(dali_machine, 640);
     CHECK_LAYOUT(dali_table, 257);
+    CHECK_LAYOUT(dali_passes, 3);
     CHECK_LAYOUT(dali_levels, 40);
     CHECK_LAYOUT(dali_receiver, 10);
     CHECK_LAYOUT(dali_told, 8);
@@ -445,6 +446,45 @@ static struct dali_window some_window(uint64_t *chance)
     return window;
 }
 
+/* After a step by this input, which gave this order, this is to be done; 0xFF if the call is refused. */
+static void check_pass(struct dali_passes *passes, uint8_t input, uint8_t kind, uint8_t reason, uint8_t wanted)
+{
+    struct dali_order order = {kind, DALI_FIRST_PRIORITY, 0, 0, 0, 0, {DALI_ENROL, {0, {0, 0, 0}}}, reason};
+    struct dali_passes before = *passes;
+    uint8_t next = 0xFF, status = dali_passes_step(passes, input, &order, &next);
+
+    check(status == (wanted == 0xFF ? DALI_BAD_ARGUMENT : DALI_OK), "the status of dali_passes_step");
+    check(next == wanted, "what is to be done next");
+    check(status == DALI_OK || memcmp(passes, &before, sizeof before) == 0, "what dali_passes_step changes");
+}
+
+/* Runs until a controller is ready, and runs that end otherwise. */
+static void reach_passes(void)
+{
+    struct dali_passes passes;
+
+    for (int heard = 0; heard < 2; heard++) {
+        check(dali_passes_new(&passes) == DALI_OK, "the status of dali_passes_new");
+        check_pass(&passes, DALI_SURVEY, DALI_NOTHING_ORDERED, 0, 0xFF);
+        check_pass(&passes, DALI_HEARD_BYTE, DALI_PUT, 0, DALI_NEXT_ORDER);
+        check_pass(&passes, DALI_HEARD_SILENCE, DALI_DONE, DALI_ALL_FOUND, DALI_NEXT_RUN);
+        check_pass(&passes, DALI_HEARD_BYTE, DALI_DONE, DALI_ALL_FOUND, DALI_NEXT_RUN);
+        /* This run commits, so three more must be quiet. */
+        check_pass(&passes, DALI_HEARD_BYTE, DALI_COMMIT, 0, DALI_NEXT_ORDER);
+        for (int run = 0; run < 3; run++)
+            check_pass(&passes, DALI_HEARD_DAMAGED, DALI_DONE, DALI_ALL_FOUND, DALI_NEXT_RUN);
+        check_pass(&passes, heard ? DALI_HEARD_BYTE : DALI_LAPSED, DALI_PUT, 0, DALI_NEXT_ORDER);
+        check_pass(&passes, DALI_HEARD_SILENCE, DALI_DONE, DALI_ALL_FOUND, heard ? DALI_NEXT_READY : DALI_NEXT_ASK);
+        check_pass(&passes, DALI_HEARD_BYTE, DALI_PUT, 0, 0xFF);
+    }
+    check(dali_passes_new(&passes) == DALI_OK, "the status of dali_passes_new");
+    check_pass(&passes, DALI_HEARD_SILENCE, DALI_DONE, DALI_GAVE_UP, DALI_NEXT_ENDED);
+    check_pass(&passes, DALI_HEARD_SILENCE, DALI_DONE, DALI_BLOCK_FULL, DALI_NEXT_ENDED);
+    check_pass(&passes, DALI_COMMIT_FAILED, DALI_HALT, DALI_STORE, DALI_NEXT_ENDED);
+    check_pass(&passes, DALI_HEARD_BYTE, DALI_HALT, DALI_STORE + 1, 0xFF);
+    check_pass(&passes, DALI_HEARD_BYTE, DALI_HALT + 1, 0, 0xFF);
+}
+
 /* Each status of the calls at the pins, at what they make and at bytes that are none. */
 static void reach_pins(unsigned long rounds, uint64_t seed)
 {
@@ -590,6 +630,7 @@ int main(int count, char **words)
 
     check_layouts();
     reach_statuses();
+    reach_passes();
     reach_pins(rounds, chance);
     collect(machines, chance);
     for (unsigned long round = 0; round < rounds; round++) {

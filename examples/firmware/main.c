@@ -15,13 +15,22 @@
 #define MOST_GEAR 48
 
 static uint8_t flash[PAGES][PAGE_SLOTS * SLOT_BYTES];
+/* Bits that a loss of power has torn: each time they read as they like, or if the flash corrects errors, their slot is not read. */
+static uint8_t torn[PAGES][PAGE_SLOTS * SLOT_BYTES];
+static int is_correcting;
 static struct bus bus;
 static struct node node;
 static struct dali_order put;
 static uint64_t chance;
 /* How many moments of flash and bus are left before the power is cut; 0 once it is cut. What happens then has no effect. */
 static uint32_t moments;
+/* How many writes are left before the power is cut in the midst of one, if it is. */
+static uint32_t writes_left;
 static uint32_t cuts, frames, writes, erasures;
+/* What every frame is told as, if the bus has failed; else DALI_START, which no frame is told as. */
+static uint8_t failed_as = DALI_START;
+/* How often a survey has asked at the last address, at which no gear is, since a record was written: three times in each. */
+static uint32_t surveyed;
 
 static void must(int is_so, const char *what)
 {
@@ -43,45 +52,80 @@ static int power(void)
     return moments > 0 ? 2 : 1;
 }
 
-const uint8_t *flash_page(int page)
+int flash_read(int page, int slot, uint8_t *bytes)
 {
-    return flash[page];
+    int is_read = 1;
+
+    must(slot < PAGE_SLOTS, "a slot is outside of its page");
+    for (int at = 0; at < SLOT_BYTES; at++) {
+        uint8_t bits = torn[page][slot * SLOT_BYTES + at];
+
+        bytes[at] = (uint8_t)(flash[page][slot * SLOT_BYTES + at] ^ (bits & chance_next(&chance)));
+        is_read = is_read && !(is_correcting && bits);
+    }
+    if (!is_read)
+        memset(bytes, 0xFF, SLOT_BYTES);
+    return is_read;
+}
+
+/* Takes a byte to another one. If the power is cut, then in the midst, so that each bit was taken or not, or near the end, so that
+ * hardly one was not; and some that were taken are torn. */
+static void flash_change(uint8_t *from, uint8_t *bits, uint8_t to, int how, int is_near_end)
+{
+    uint8_t changes = (uint8_t)(*from ^ to), some = (uint8_t)(chance_next(&chance) & chance_next(&chance));
+
+    if (how == 1)
+        changes &= (uint8_t)(chance_next(&chance) | (is_near_end ? 0xFF : 0));
+    *from ^= changes;
+    *bits = how == 2 ? 0 : (uint8_t)(*bits | (changes & some & chance_next(&chance)));
 }
 
 /* If the power is cut meanwhile, each byte is erased, as it was, or anything between. */
 int flash_erase(int page)
 {
-    int how = power();
+    int how = power(), is_near_end = chance_below(&chance, 2) == 0;
 
     for (int at = 0; how > 0 && at < PAGE_SLOTS * SLOT_BYTES; at++)
-        flash[page][at] |= how == 2 ? 0xFF : (uint8_t)chance_next(&chance);
+        flash_change(&flash[page][at], &torn[page][at], 0xFF, how, is_near_end);
     erasures += how == 2;
     return how == 2;
 }
 
-/* If the power is cut meanwhile, some of the bits are written. */
+/* If the power is cut meanwhile, some of the bits are written. None of a head is torn: docs/FIRMWARE.md says so. */
 int flash_write(int page, int slot, const uint8_t *bytes)
 {
-    int how = power();
     uint8_t *to = &flash[page][slot * SLOT_BYTES];
+    int how, is_near_end = chance_below(&chance, 2) == 0;
 
+    if (writes_left > 0 && --writes_left == 0)
+        moments = moments > 1 ? 1 : moments;
+    how = power();
     must(slot < PAGE_SLOTS, "a slot is outside of its page");
     for (int at = 0; how > 0 && at < SLOT_BYTES; at++) {
         must(how == 1 || to[at] == 0xFF, "a slot is written twice");
-        to[at] &= how == 2 ? bytes[at] : (uint8_t)(bytes[at] | chance_next(&chance));
+        flash_change(&to[at], &torn[page][slot * SLOT_BYTES + at], bytes[at], how, is_near_end);
+        torn[page][slot * SLOT_BYTES + at] &= slot > 0 ? 0xFF : 0;
     }
     writes += how == 2;
+    surveyed = 0;
     return how == 2;
 }
 
 void bus_put(const struct dali_order *order)
 {
     put = *order;
+    surveyed += put.address_byte == 2 * DALI_ADDRESSES - 1 && put.opcode_byte == 0xC2;
 }
 
 /* The simulated gear are those of the other example, which can be killed; here nothing is. */
 void stop_on_bus(void)
 {
+}
+
+/* The first question at last is lost, so it is asked once more. */
+static int is_lost(void)
+{
+    return node.is_asking && node.asked == 1;
 }
 
 /* The bare loop: it waits for an event, and hands it to the task. Here the only event is the end of a frame. */
@@ -91,8 +135,10 @@ static void loop(void)
         struct told told = {DALI_LAPSED, 0};
 
         must(count < MOST_FRAMES, "a controller alone does not end");
-        if (power() > 0)
+        if (power() > 0 && failed_as == DALI_START && !is_lost())
             told = bus_send(&bus, put.address_byte, put.opcode_byte);
+        else if (failed_as != DALI_START)
+            told.input = failed_as;
         frames++;
         if (moments > 0)
             node_told(&node, told.input, told.byte);
@@ -123,39 +169,130 @@ static void check_site(const struct dali_records *records)
     }
 }
 
-static void live(uint32_t count)
+static int is_any_left(void)
+{
+    for (uint32_t at = 0; at < bus.gear_count; at++) {
+        if (bus.gear[at].short_byte == GEAR_MASK)
+            return 1;
+    }
+    return 0;
+}
+
+/* A life, and how it ended, if it has power for so many moments. */
+static enum node_state live(uint32_t count)
 {
     struct dali_records records;
 
     moments = count;
     node_begin(&node, 0, DALI_ADDRESSES - 1, DALI_SURVEY);
     loop();
-    must(moments == 0 || node.state == NODE_READY, "a controller with power is not ready");
     if (dali_machine_records(&node.machine, &records) == DALI_OK)
         check_site(&records);
+    return node.state;
+}
+
+static void begin(uint64_t seed)
+{
+    chance = seed;
+    bus_new(&bus, chance_next(&chance), 1 + chance_below(&chance, MOST_GEAR));
+    memset(flash, 0xFF, sizeof flash);
+    memset(torn, 0, sizeof torn);
+    is_correcting = (int)chance_below(&chance, 2);
+    memset(&node, 0, sizeof node);
 }
 
 /* A site whose controller is cut off some times, and then is not. */
 static void commission(uint64_t seed)
 {
-    chance = seed;
-    bus_new(&bus, chance_next(&chance), 1 + chance_below(&chance, MOST_GEAR));
-    memset(flash, 0xFF, sizeof flash);
-    memset(&node, 0, sizeof node);
+    begin(seed);
     for (int life = 0; life < LIVES; life++) {
+        enum node_state state;
+
         bus.troubles = (struct troubles){2000, 2000, 2000, 2000, 2000, 200};
-        live(1 + chance_below(&chance, chance_below(&chance, 2) ? 300 : 4000));
+        writes_left = chance_below(&chance, 2) ? 1 + chance_below(&chance, 2 * MOST_GEAR) : 0;
+        state = live(1 + chance_below(&chance, chance_below(&chance, 2) ? 300 : 4000));
+        must(moments == 0 || state == NODE_READY || state == NODE_BUS_FAILS, "a controller with power is not ready");
     }
     bus.troubles = (struct troubles){0, 0, 0, 0, 0, 0};
-    live(FOR_GOOD);
-    for (uint32_t at = 0; at < bus.gear_count; at++)
-        must(bus.gear[at].short_byte != GEAR_MASK, "a gear is left");
+    writes_left = 0;
+    must(live(FOR_GOOD) == NODE_READY, "a controller without troubles is not ready");
+    must(surveyed >= 9, "fewer than three runs have found nothing more");
+    must(!is_any_left(), "a gear is left");
+}
+
+/* The bus fails from the beginning, or once all gear have an address: no controller says that it is ready. */
+static void fail(uint64_t seed)
+{
+    static const uint8_t failures[] = {DALI_LAPSED, DALI_DESTROYED, DALI_HEARD_DAMAGED, DALI_HEARD_SILENCE};
+
+    begin(seed);
+    for (int commissioned = 0; commissioned < 2; commissioned++) {
+        for (uint32_t at = 0; at < sizeof failures; at++) {
+            failed_as = failures[at];
+            must(live(FOR_GOOD) == NODE_BUS_FAILS, "a controller on a bus that has failed does not say so");
+        }
+        failed_as = DALI_START;
+        must(live(FOR_GOOD) == NODE_READY, "a controller on a bus that works again is not ready");
+        must(surveyed >= 9, "fewer than three runs have found nothing more");
+    }
+}
+
+/* So many frames are lost that runs give up: no controller says that it is ready and leaves gear. */
+static void lose(uint64_t seed)
+{
+    enum node_state state = NODE_BUS_FAILS;
+
+    begin(seed);
+    bus.troubles.lapsed = 500000;
+    for (int life = 0; life < LIVES && state != NODE_READY; life++) {
+        state = live(FOR_GOOD);
+        must(state == NODE_BUS_FAILS || (state == NODE_READY && !is_any_left()), "a controller is ready, and a gear is left");
+    }
+}
+
+/* However long the runs take, a controller ends. */
+static void bound(uint64_t seed)
+{
+    begin(seed);
+    node_begin(&node, 0, DALI_ADDRESSES - 1, DALI_SURVEY);
+    node.frames = NODE_MOST_FRAMES - 10;
+    moments = FOR_GOOD;
+    loop();
+    must(node.state == NODE_BUS_FAILS && node.frames == NODE_MOST_FRAMES + 1, "the runs have no bound");
+}
+
+/* All gear have addresses from another controller, so that a survey hears none once it has enrolled them: a controller asks them. */
+static void find(uint64_t seed)
+{
+    begin(seed);
+    for (uint32_t at = 0; at < bus.gear_count; at++) {
+        bus.gear[at].random_address = 3 * at;
+        bus.gear[at].short_byte = (uint8_t)(2 * at + 1);
+    }
+    must(live(FOR_GOOD) == NODE_READY && node.asked == 2, "a controller does not ask gear that a survey does not");
+}
+
+/* Every address of the block is another gear's: a controller says so. */
+static void fill(uint64_t seed)
+{
+    begin(seed);
+    bus.gear_count = 2;
+    moments = FOR_GOOD;
+    node_begin(&node, 5, 5, DALI_SURVEY);
+    loop();
+    must(node.state == NODE_BLOCK_FULL && is_any_left(), "a block that is full is not said to be");
 }
 
 int main(void)
 {
-    for (uint32_t run = 0; run < COMMISSIONINGS; run++)
+    for (uint32_t run = 0; run < COMMISSIONINGS; run++) {
         commission(SEED + run);
+        fail(SEED + run);
+        lose(SEED + run);
+        find(SEED + run);
+    }
+    bound(SEED);
+    fill(SEED);
     say("frames");
     say_number(frames);
     say("\nwrites");

@@ -28,20 +28,20 @@ static int write_slot(int page, int slot, const uint8_t *bytes)
     return flash_write(page, slot, whole);
 }
 
-static const uint8_t *slot_at(int page, int slot)
+/* Reads a slot once: what a loss of power has torn may read otherwise the next time. 1 if it is whole. */
+static int read_whole(int page, int slot, uint8_t *bytes)
 {
-    return flash_page(page) + slot * SLOT_BYTES;
+    return flash_read(page, slot, bytes) && bytes[7] == 0 && check_of(bytes) == (bytes[5] << 8 | bytes[6]);
 }
 
-static int is_whole(const uint8_t *slot)
+static int is_blank(int page, int slot)
 {
-    return slot[7] == 0 && check_of(slot) == (slot[5] << 8 | slot[6]);
-}
+    uint8_t bytes[SLOT_BYTES];
 
-static int is_blank(const uint8_t *slot)
-{
+    if (!flash_read(page, slot, bytes))
+        return 0;
     for (int at = 0; at < SLOT_BYTES; at++) {
-        if (slot[at] != BLANK)
+        if (bytes[at] != BLANK)
             return 0;
     }
     return 1;
@@ -49,23 +49,26 @@ static int is_blank(const uint8_t *slot)
 
 static int is_blank_from(int page, int slot)
 {
-    while (slot < PAGE_SLOTS && is_blank(slot_at(page, slot)))
+    while (slot < PAGE_SLOTS && is_blank(page, slot))
         slot++;
     return slot == PAGE_SLOTS;
 }
 
-static int has_head(int page)
+struct head {
+    int is_there;
+    uint16_t age;
+};
+
+static struct head head_of(int page)
 {
-    const uint8_t *head = slot_at(page, 0);
+    uint8_t bytes[SLOT_BYTES];
+    struct head head = {0, 0};
 
-    return is_whole(head) && head[0] == HEAD && head[1] == FORMAT;
-}
-
-static uint16_t age_of(int page)
-{
-    const uint8_t *head = slot_at(page, 0);
-
-    return (uint16_t)(head[2] << 8 | head[3]);
+    if (read_whole(page, 0, bytes) && bytes[0] == HEAD && bytes[1] == FORMAT) {
+        head.is_there = 1;
+        head.age = (uint16_t)(bytes[2] << 8 | bytes[3]);
+    }
+    return head;
 }
 
 static int write_record(int page, int slot, uint8_t kind, const struct dali_pair *pair)
@@ -105,32 +108,29 @@ static int write_anew(struct pages *pages, const struct dali_records *standing)
 /* Finds the page that is the store. Without one there was none yet, if no record was ever written. */
 static enum pages_status find(struct pages *pages)
 {
+    struct head heads[PAGES] = {head_of(0), head_of(1)};
     /* Ages go round. */
-    uint16_t ahead = (uint16_t)(age_of(1) - age_of(0));
+    uint16_t ahead = (uint16_t)(heads[1].age - heads[0].age);
     int newer = ahead > 0 && ahead < 0x8000;
 
-    pages->page = has_head(1) && (newer || !has_head(0)) ? 1 : 0;
-    pages->age = 0;
-    pages->slot = 1;
-    if (has_head(pages->page))
-        pages->age = age_of(pages->page);
-    else if (!is_blank_from(0, 1) || !is_blank_from(1, 1))
-        return PAGES_DAMAGED;
-    else
-        pages->slot = PAGE_SLOTS;
-    return PAGES_OPEN;
+    pages->page = heads[1].is_there && (newer || !heads[0].is_there) ? 1 : 0;
+    pages->age = heads[pages->page].age;
+    pages->slot = heads[pages->page].is_there ? 1 : PAGE_SLOTS;
+    if (heads[pages->page].is_there || (is_blank_from(0, 1) && is_blank_from(1, 1)))
+        return PAGES_OPEN;
+    return PAGES_DAMAGED;
 }
 
 static enum pages_status read_all(struct pages *pages, struct dali_records *records)
 {
-    const uint8_t *slot = slot_at(pages->page, pages->slot);
+    uint8_t bytes[SLOT_BYTES];
 
-    while (pages->slot < PAGE_SLOTS && is_whole(slot)) {
-        struct dali_record record = {slot[0], {slot[1], {slot[2], slot[3], slot[4]}}};
+    while (pages->slot < PAGE_SLOTS && read_whole(pages->page, pages->slot, bytes)) {
+        struct dali_record record = {bytes[0], {bytes[1], {bytes[2], bytes[3], bytes[4]}}};
 
         if (dali_records_add(records, &record) != DALI_OK)
             return PAGES_REFUSED;
-        slot = slot_at(pages->page, ++pages->slot);
+        pages->slot++;
     }
     /* The last one may be cut off, and nothing stands behind it. */
     return pages->slot == PAGE_SLOTS || is_blank_from(pages->page, pages->slot + 1) ? PAGES_OPEN : PAGES_DAMAGED;

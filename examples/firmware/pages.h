@@ -11,8 +11,9 @@
 /* A head, and more than the 128 records that a controller can have at one time. */
 #define PAGE_SLOTS 256
 
-/* The flash, which is yours. A page is read as memory; erased bytes are FF. 1 if it was done, else 0. */
-const uint8_t *flash_page(int page);
+/* The flash, which is yours; erased bytes are FF. 1 if it was done, else 0. A flash with error correction cannot read a slot that
+ * a loss of power has torn: catch the fault of the processor that comes then, and answer 0. */
+int flash_read(int page, int slot, uint8_t *bytes);
 int flash_erase(int page);
 int flash_write(int page, int slot, const uint8_t *bytes);
 

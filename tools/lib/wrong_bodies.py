@@ -111,12 +111,17 @@ def functions(file: str, lines: list[str], changed: list[int]) -> set[str]:
 def function(lines: list[str], at: int, module: tuple[str, ...]) -> str | None:
     """The function in which a line stands, or nothing. It is indented less than the line, and its `impl` less than it is."""
     depth, name = indent(lines[at]) + bool(HEAD.match(lines[at])), None
-    for line in reversed(lines[: at + 1]):
+    for number, line in reversed([*enumerate(lines[: at + 1])]):
         if name is None and (head := HEAD.match(line)) and indent(line) < depth:
             name, depth = head[2], indent(line)
-        elif name and (kind := IMPL.match(line)) and indent(line) < depth:
+        elif name and (kind := impl_at(lines, number)) and indent(line) < depth:
             return f"{kind[2]}{kind[1] or ''}::{name}"
     return name and "::".join([*module, name])
+
+
+def impl_at(lines: list[str], at: int) -> re.Match | None:
+    """The `impl` that begins on a line, or nothing. What it is for may stand on the next one."""
+    return IMPL.match(lines[at] if "{" in lines[at] else " ".join(map(str.strip, lines[at : at + 2]))) if lines[at].startswith("impl") else None
 
 
 def indent(line: str) -> int:
@@ -208,7 +213,7 @@ def item(lines: list[str], at: int) -> tuple[int, int, int]:
 
 def owner(lines: list[str], head: int) -> re.Match | None:
     """The `impl` in which a function stands, or nothing."""
-    return next((kind for line in reversed(lines[:head]) if indent(line) < indent(lines[head]) and (kind := IMPL.match(line))), None)
+    return next((kind for at in range(head - 1, -1, -1) if indent(lines[at]) < indent(lines[head]) and (kind := impl_at(lines, at))), None)
 
 
 def check(crate: proving.Crate, edits: list[Edit], paths: Iterable[str]) -> tuple[int, str]:

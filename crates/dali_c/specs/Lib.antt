@@ -10,5 +10,6 @@ pub mod Records
 pub mod Machines
 pub mod Levels
 pub mod Receivers
+pub mod Passes
 pub mod Calls
 pub mod Hosts

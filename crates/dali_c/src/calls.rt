@@ -24,12 +24,14 @@ ghost use Rattle.dali_c.specs.Levels.{AreLevels};
 ghost use Rattle.dali_c.specs.Receivers.{receiver_of, window_of, IsTold, IsHeard};
 ghost use Rattle.dali_c.specs.Calls.{AnswersAdd, Steps, refusal, OK, NOT_DUE, NO_MACHINE, BAD_ARGUMENT, NO_RECORDS};
 ghost use Rattle.dali_c.specs.Hosts.{HasStepped};
+ghost use Rattle.dali_c.specs.Passes.{passes_after, next_after};
 ghost use Rattle.dali_c.specs.Calls.{DOES_NOT_FIT, ADDRESS_TAKEN, RANDOM_TAKEN, NOT_RESERVED};
 
 use crate::codes::{bool_of, due_code, input_of};
 use crate::levels::PlainLevels;
 use crate::machine::PlainMachine;
 use crate::orders::{PlainOrder, PlainRecord};
+use crate::passes::{PlainPasses, QUIET_RUNS};
 use crate::receivers::{PlainHeard, PlainReceiver, PlainTold, PlainWindow};
 use crate::records::PlainRecords;
 use crate::state::VERSION;
@@ -313,6 +315,41 @@ pub extern "C" fn dali_machine_table(machine: &PlainMachine, table: &mut Pairs) 
         return machine.refusal();
     };
     *table = machine.records.enrolled;
+    status::OK
+}
+
+/// The runs of a controller, before the first one.
+#[unsafe(no_mangle)]
+pub extern "C" fn dali_passes_new(passes: &mut PlainPasses) -> u8
+    ensures { (result ≡ OK) × (passes.new ≡ record { quiet = 0; has_committed = 0; has_heard = 0 }) }
+{
+    *passes = PlainPasses::NONE;
+    status::OK
+}
+
+/// A machine was told an input, and has ordered this: whether another run is to be begun, or what it came to.
+#[unsafe(no_mangle)]
+pub extern "C" fn dali_passes_step(
+    passes: &mut PlainPasses,
+    input: u8,
+    order: &PlainOrder,
+    next: &mut u8,
+) -> u8
+    ensures done { (o : Order) → passes.old.quiet < 3 → order_of order.now ≡ Some (Some o)
+        → (result ≡ OK) × (passes.new ≡ passes_after passes.old input o)
+        × (next.new ≡ next_after passes.old input o) }
+    ensures bad { (result ≡ BAD_ARGUMENT) ↔ ((passes.old.quiet < 3 → ⊥)
+        ⊎ (order_of order.now ≡ None) ⊎ (order_of order.now ≡ Some None)) }
+    ensures named { (result ≡ OK) ⊎ (result ≡ BAD_ARGUMENT) }
+    ensures untouched { (result ≡ OK → ⊥) → (passes.new ≡ passes.old) × (next.new ≡ next.old) }
+{
+    if passes.quiet >= QUIET_RUNS {
+        return status::BAD_ARGUMENT;
+    }
+    let Some(Some(ordered)) = order.read() else {
+        return status::BAD_ARGUMENT;
+    };
+    *next = passes.step(input, ordered);
     status::OK
 }
 

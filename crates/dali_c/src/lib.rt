@@ -14,6 +14,7 @@ mod levels;
 mod machine;
 mod orders;
 mod pairs;
+mod passes;
 mod purposes;
 mod receivers;
 mod records;

@@ -1,5 +1,5 @@
-use Rattle.std.specs.Prelude.{◌≡◌, ◌⊎◌, ℕ, ◌≤◌, ◌-◌, ◌^◌, Bool, true, false, not, List, [], ◌∷◌}
-use Rattle.std.specs.Prelude.{◌++◌, ◌||◌, nat_le, if◌then◌else◌}
+use Rattle.std.specs.Prelude.{◌≡◌, ◌⊎◌, ℕ, ◌<◌, ◌≤◌, ◌-◌, ◌^◌, Bool, true, false, not, List, []}
+use Rattle.std.specs.Prelude.{◌∷◌, ◌++◌, ◌||◌, nat_le, if◌then◌else◌}
 use Rattle.dali_controller.specs.declared.shorts.Shorts.{Shorts}
 use Rattle.dali_controller.specs.Shorts.{with_short}
 use Rattle.dali_script.specs.declared.orders.End.TheVariants.{AllFound, GaveUp}
@@ -20,7 +20,7 @@ use Rattle.dali_commission_asked.specs.declared.sharing.Left.{Left}
 abbrev pub AnswersAt : ℕ → Bool → Talk → Talk → Type 0
 AnswersAt a found x y =
     ((64 ≤ a) × (found ≡ false) × (y ≡ x))
-    ⊎ ((r : Reply) × IsAnswered a r x y × (found ≡ not (is_silent r)))
+    ⊎ ((a < 64) × (r : Reply) × IsAnswered a r x y × (found ≡ not (is_silent r)))
 
 abbrev pub If : Bool → Type 0 → Type 0 → Type 0
 If true A B = A
@@ -77,7 +77,7 @@ with_reply left a r = record {
 abbrev pub IsAskedAgain : ℕ → Left → Left → Talk → Talk → Type 0
 IsAskedAgain a before after x y =
     ((64 ≤ a) × (after ≡ before) × (y ≡ x))
-    ⊎ ((r : Reply) × IsCleared a r x y × (after ≡ with_reply before a r))
+    ⊎ ((a < 64) × (r : Reply) × IsCleared a r x y × (after ≡ with_reply before a r))
 
 abbrev pub AreAskedAgain : List ℕ → Left → Left → Talk → Talk → Type 0
 AreAskedAgain [] before after x y = (after ≡ before) × (y ≡ x)

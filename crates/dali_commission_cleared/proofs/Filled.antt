@@ -4,6 +4,7 @@ use Rattle.std.specs.Prelude.{if◌then◌else◌, ◌↔◌, IsTrue, string_byt
 use Rattle.std.specs.declared.alloc.Global.{Global}
 use Rattle.std.specs.declared.string.String.{String}
 use Rattle.dali_script.specs.Records.{Kept}
+use Rattle.dali_commission_said.specs.declared.said.Said.{Said}
 use Rattle.dali_commission_stores.specs.Calls.{Call, Look, Has, Lies, Read}
 use Rattle.dali_commission_cleared.specs.Clearing.{AddsFilled, AreFilled, IsNewAside, AreNewAside}
 use Rattle.dali_commission_stores.specs.Keeping.{IsAside}
@@ -49,16 +50,16 @@ one_more saw x at name all more before mid after (Ok done) begins is adds rest =
 one_more saw x at name all more before mid after (Err e) begins is adds rest = tt
 
 -- the new file of a name is put aside, at its place
-pub new_aside : {F E : Type 0} (made : F → F → Call → Type 0) (saw : F → Look → Type 0) (x y : F) (name at : List ℕ) (place : String Global)
-    (r : Result (Unit {0}) E) → saw x (Lies name (string_bytes place)) → at ≡ string_bytes place → OnOk r (IsAside made saw at x y)
-    → OnOk r (IsNewAside made saw name x y)
-new_aside made saw x y name at place (Ok done) lies is aside = (place, lies, subst (λ (a : List ℕ). IsAside made saw a x y) is aside)
-new_aside made saw x y name at place (Err e) lies is aside = tt
+pub new_aside : {F E : Type 0} (made : F → F → Call → Type 0) (saw : F → Look → Type 0) (told : Said → Type 0) (x y : F) (name at : List ℕ)
+    (place : String Global) (r : Result (Unit {0}) E) → saw x (Lies name (string_bytes place)) → at ≡ string_bytes place
+    → OnOk r (IsAside made saw told at x y) → OnOk r (IsNewAside made saw told name x y)
+new_aside made saw told x y name at place (Ok done) lies is aside = (place, lies, subst (λ (a : List ℕ). IsAside made saw told a x y) is aside)
+new_aside made saw told x y name at place (Err e) lies is aside = tt
 
-pub more_aside : {F E : Type 0} (made : F → F → Call → Type 0) (saw : F → Look → Type 0) (x y z : F) (at : List ℕ) (name : String Global)
-    (all more : List (String Global)) (r : Result (Unit {0}) E) → all ≡ name ∷ more → at ≡ string_bytes name → IsNewAside made saw at x y
-    → OnOk r (AreNewAside made saw more y z) → OnOk r (AreNewAside made saw all x z)
-more_aside made saw x y z at name all more (Ok done) begins is one rest =
-    subst (λ (l : List (String Global)). AreNewAside made saw l x z) (sym begins)
-    (y, subst (λ (a : List ℕ). IsNewAside made saw a x y) is one, rest)
-more_aside made saw x y z at name all more (Err e) begins is one rest = tt
+pub more_aside : {F E : Type 0} (made : F → F → Call → Type 0) (saw : F → Look → Type 0) (told : Said → Type 0) (x y z : F) (at : List ℕ)
+    (name : String Global) (all more : List (String Global)) (r : Result (Unit {0}) E) → all ≡ name ∷ more → at ≡ string_bytes name
+    → IsNewAside made saw told at x y → OnOk r (AreNewAside made saw told more y z) → OnOk r (AreNewAside made saw told all x z)
+more_aside made saw told x y z at name all more (Ok done) begins is one rest =
+    subst (λ (l : List (String Global)). AreNewAside made saw told l x z) (sym begins)
+    (y, subst (λ (a : List ℕ). IsNewAside made saw told a x y) is one, rest)
+more_aside made saw told x y z at name all more (Err e) begins is one rest = tt

@@ -70,18 +70,20 @@ ArePutAside made saw told records x y =
     × AreKeptTold told number names
 
 -- and so are the new files that a stopped replacement has left beside any of them
-abbrev pub IsNewAside : {F : Type 0} → (F → F → Call → Type 0) → (F → Look → Type 0) → List ℕ → F
-    → F → Type 0
-IsNewAside made saw name x y =
+abbrev pub IsNewAside : {F : Type 0} → (F → F → Call → Type 0) → (F → Look → Type 0)
+    → (Said → Type 0) → List ℕ → F → F → Type 0
+IsNewAside made saw told name x y =
     (place : String Global)
     × saw x (look.Lies name (string_bytes place))
-    × IsAside made saw (string_bytes place) x y
+    × IsAside made saw told (string_bytes place) x y
 
 abbrev pub AreNewAside : {F : Type 0} → (F → F → Call → Type 0) → (F → Look → Type 0)
-    → List (String Global) → F → F → Type 0
-AreNewAside made saw [] x y = x ≡ y
-AreNewAside made saw (name ∷ more) x y =
-    (z : _) × IsNewAside made saw (string_bytes name) x z × AreNewAside made saw more z y
+    → (Said → Type 0) → List (String Global) → F → F → Type 0
+AreNewAside made saw told [] x y = x ≡ y
+AreNewAside made saw told (name ∷ more) x y =
+    (z : _)
+    × IsNewAside made saw told (string_bytes name) x z
+    × AreNewAside made saw told more z y
 
 -- ALL GEAR LOSE THEIR SHORT ADDRESSES by the frames of the machine, put until none is due; then
 -- each short address is asked
@@ -156,5 +158,5 @@ HasCleared {F = F} made saw told records was now x y ended =
     (IsErr ended × (y ≡ x))
     ⊎ ((mid : F)
     × ArePutAside made saw told records was mid
-    × AreNewAside made saw records mid now
+    × AreNewAside made saw told records mid now
     × (IsErr ended ⊎ IsClearedSo told x y ended))

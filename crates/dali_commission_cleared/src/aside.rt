@@ -145,7 +145,7 @@ fn put_its_new_aside<S: Voice + AllocGlobal, F: Stores>(
     stores: &mut F,
     name: &str,
 ) -> Result<(), Failure>
-    ensures { OnOk result (IsNewAside F.made F.saw name.now stores.old stores.new) }
+    ensures { OnOk result (IsNewAside F.made F.saw (S.told system.now) name.now stores.old stores.new) }
 {
     let place = match stores.place_of(system.alloc(), name) {
         Ok(place) => place,
@@ -160,7 +160,7 @@ pub(crate) fn put_new_aside<S: Voice + AllocGlobal, F: Stores>(
     stores: &mut F,
     records: &[String],
 ) -> Result<(), Failure>
-    ensures { OnOk result (AreNewAside F.made F.saw records.now stores.old stores.new) }
+    ensures { OnOk result (AreNewAside F.made F.saw (S.told system.now) records.now stores.old stores.new) }
 {
     let [name, more @ ..] = records else {
         return Ok(());

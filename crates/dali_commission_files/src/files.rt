@@ -11,6 +11,7 @@ ghost use Rattle.dali_sqlite.specs.Files.{HoldRecords};
 ghost use Rattle.dali_sqlite.specs.Header.{may_be_records};
 ghost use Rattle.dali_sqlite.specs.Keep.{block_of, shown_by, IsSound};
 ghost use Rattle.dali_sqlite.specs.Stored.{Holds, IsUp};
+ghost use Rattle.dali_commission_stores.specs.Lent.{AreRead};
 ghost use Rattle.dali_commission_files.specs.Logs.{IsDamaged};
 ghost use Rattle.dali_commission_files.specs.Faults.{system_fault, or_number, copy_fault, closed_fault};
 ghost use Rattle.dali_commission_files.specs.Faults.{IsUnread, IsUnwritten, IsUnopened, IsUncopied, IsUnnoted};
@@ -336,6 +337,7 @@ fn open_one<'a>(
 }
 
 /// Opens files of records, and notes what they have.
+#[tactic(auto, using(std::proofs::lemmas::List::append_assoc))]
 fn open_all<'a, F, D, H: Holder<F, D>>(
     rt: &HostRuntime,
     names: &'a [String],
@@ -343,14 +345,16 @@ fn open_all<'a, F, D, H: Holder<F, D>>(
     held: &mut Open<'a>,
     all: &mut Vec<Kept>,
 ) -> Result<(), Failure>
-    ensures { IfErr result (λ failure. (it : StoreFault) × IsUnheld it × (failure ≡ Failure.Store it)) }
+    ensures read { (at : F) → OnOk result (AreRead (λ _ _. Unit {0}) at names.now all.old.items all.new.items) }
+    ensures refused { IfErr result (λ failure. (it : StoreFault) × IsUnheld it × (failure ≡ Failure.Store it)) }
 {
-    for name in names {
-        if let Err(fault) = open_one(rt, name.as_str(), held, all) {
-            return Err(holder.refused(name, Failure::Store(fault)));
-        }
+    let [name, more @ ..] = names else {
+        return Ok(());
+    };
+    if let Err(fault) = open_one(rt, name.as_str(), held, all) {
+        return Err(holder.refused(name, Failure::Store(fault)));
     }
-    Ok(())
+    open_all(rt, more, holder, held, all)
 }
 
 /// Closes a file of records, and adds it to those that are closed.

@@ -1,2 +1,3 @@
 pub mod Frames
 pub mod Mended
+pub mod Ruled

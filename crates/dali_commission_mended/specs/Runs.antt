@@ -9,9 +9,11 @@ use Rattle.dali_commissioning.specs.declared.beginning.Begun.TheVariants as begu
 use Rattle.dali_commissioning.specs.declared.conducting.Ended.TheVariants.{Done}
 use Rattle.dali_commissioning.specs.declared.conducting.PassEnd.{PassEnd}
 use Rattle.dali_commissioning.specs.declared.fault.CommissionFault.{CommissionFault}
+use Rattle.dali_commissioning.specs.Acts.{RunsLeaveRules}
 use Rattle.dali_commissioning.specs.Drivers.{Talk}
 use Rattle.dali_commissioning.specs.Places.{places}
 use Rattle.dali_commissioning.specs.Runs.{Run, AreRuns, EndWith, ComeTo, AreQuiet, IsBegun}
+use Rattle.dali_commissioning.specs.Rules.{LeavesBegun}
 use Rattle.dali_commissioning.specs.Runs.{IsRead}
 use Rattle.dali_commission_said.specs.declared.failure.Failure.{Failure}
 use Rattle.dali_commission_said.specs.declared.failure.Failure.TheVariants.{AddressedBefore}
@@ -40,6 +42,16 @@ HasBegun is_up is_sound holds block others wanted was keep x y start.Survey
     × EndWith pass.ended runs
     × ComeTo pass runs
     × (pass.ended ≡ Done AllFound → AreQuiet wanted runs)
+
+-- WHAT WAS PUT BY A RUN THAT COULD NOT BEGIN, or was left while its machines ran: it keeps the
+-- rules of the page
+abbrev pub HasNotBegun : {S : Type 0} (is_up is_sound : S → Type 0)
+    (holds : S → List Record → Type 0) → Block → List Block → S → S → Talk → Talk → Start
+    → CommissionFault → Type 0
+HasNotBegun is_up is_sound holds block others was keep x y start.Fresh fault =
+    LeavesBegun is_up is_sound holds block others fault was keep x y
+HasNotBegun is_up is_sound holds block others was keep x y start.Survey fault =
+    RunsLeaveRules is_up is_sound holds block Survey fault was keep x y
 
 -- HOW A RUN ENDS, as the last machine did: the records are read, and at last gear are asked until
 -- one answers. It does not end well if none does, or if something is still heard where the last
@@ -75,4 +87,5 @@ ComesTo is_up is_sound holds block k others (Ok (begun.Commissioned pass)) was k
     IsStopped ended
     ⊎ ((aim : Aim)
     × EndsSo is_up is_sound holds block pass k aim was keep x y lines ended)
-ComesTo is_up is_sound holds block k others (Err fault) was keep x y lines ended = IsStopped ended
+ComesTo is_up is_sound holds block k others (Err fault) was keep x y lines ended =
+    IsStopped ended × (keep ≡ was) × (y ≡ x)

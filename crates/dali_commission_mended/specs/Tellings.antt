@@ -1,5 +1,5 @@
 use Rattle.std.specs.Prelude.{◌≡◌, ◌⊎◌, ℕ, true, List, [], ◌∷◌, ◌++◌, Option, Some, None, Result}
-use Rattle.std.specs.Prelude.{Ok, Err, IfOk, OnOk, IsErr, string_bytes}
+use Rattle.std.specs.Prelude.{Ok, Err, IfOk, IfErr, OnOk, IsErr, string_bytes}
 use Rattle.std.specs.declared.alloc.Global.{Global}
 use Rattle.std.specs.declared.string.String.{String}
 use Rattle.dali_script.specs.declared.block.Block.{Block}
@@ -24,7 +24,7 @@ use Rattle.dali_commission_stores.specs.Calls.{Look}
 use Rattle.dali_commission_stores.specs.declared.records.Seen.{Seen}
 use Rattle.dali_commission_stores.specs.Lent.{IsLent, IsOpened, AreRead}
 use Rattle.dali_commission_asked.specs.Sharing.{reserved_in}
-use Rattle.dali_commission_mended.specs.Runs.{HasBegun, ComesTo}
+use Rattle.dali_commission_mended.specs.Runs.{HasBegun, HasNotBegun, ComesTo}
 use Rattle.dali_commission_mended.specs.Mends.{MendsFrom}
 
 -- WHAT CAME OF EACH SHORT ADDRESS that was mended is said
@@ -48,6 +48,7 @@ HasRun {S = S} is_up is_sound holds block told others setup before was keep x y 
     × (lines : List Said)
     × IfOk begun (HasBegun is_up is_sound holds block others setup.idle_passes was mid x at
     setup.start)
+    × IfErr begun (HasNotBegun is_up is_sound holds block others was mid x at setup.start)
     × ComesTo is_up is_sound holds block before others begun mid keep at y lines ended
     × AreTold told lines
 

@@ -7,7 +7,7 @@ ghost use Rattle.dali_commissioning.specs.declared.fault.CommissionFault.{Commis
 ghost use Rattle.dali_commission_said.specs.Failures.{ended_as, failure_of};
 ghost use Rattle.dali_commission_asked.specs.Ending.{pass_at_last};
 ghost use Rattle.dali_commission_asked.specs.Sharing.{left_open};
-ghost use Rattle.dali_commission_mended.specs.Runs.{HasBegun, EndsSo, ComesTo};
+ghost use Rattle.dali_commission_mended.specs.Runs.{HasBegun, HasNotBegun, EndsSo, ComesTo};
 ghost use Rattle.dali_commission_said.specs.Reports.{RunSaid};
 ghost use Rattle.dali_commission_mended.specs.Tellings.{HasRun, HasMendedAll};
 
@@ -47,6 +47,9 @@ fn begun<K: Keep, R: Read, W: Write, P: Watch>(
 ) -> Result<Begun, CommissionFault>
     ensures begun { IfOk result (HasBegun K.is_up K.is_sound K.holds (K.block store.old) others.now
         setup.now.idle_passes store.old store.new
+        (talk_of R.remaining W.contents driver.old) (talk_of R.remaining W.contents driver.new) setup.now.start) }
+    ensures not_begun { IfErr result (HasNotBegun K.is_up K.is_sound K.holds (K.block store.old) others.now
+        store.old store.new
         (talk_of R.remaining W.contents driver.old) (talk_of R.remaining W.contents driver.new) setup.now.start) }
     ensures block { K.block store.new ≡ K.block store.old }
 {

@@ -45,11 +45,11 @@ ended_there (Halted fault.Store) false is = absurd (ok_err _ (sym is))
 
 answers_at : (a : ℕ) (found : Bool) (x y : Talk) → AnswersAt a found x y → Grows x y
 answers_at a found x y (inl (beyond, none, same)) = stays x y same
-answers_at a found x y (inr (r, answered, is)) = grown (answered_more a r x y answered)
+answers_at a found x y (inr (short, r, answered, is)) = grown (answered_more a r x y answered)
 
 answers_more : (a : ℕ) (found : Bool) (x y : Talk) → found ≡ true → AnswersAt a found x y → IsMore x y
 answers_more a found x y there (inl (beyond, none, same)) = absurd (false≢true (sym none ∙ there))
-answers_more a found x y there (inr (r, answered, is)) = answered_more a r x y answered
+answers_more a found x y there (inr (short, r, answered, is)) = answered_more a r x y answered
 
 any_at : (shorts : List ℕ) (found : Bool) (x y : Talk) → IsAnyAt shorts found x y → Grows x y
 any_at [] found x y (none, same) = stays x y same
@@ -104,7 +104,7 @@ asked pass enrolled heard found x y is =
 
 again_one : (a : ℕ) (before after : Left) (x y : Talk) → IsAskedAgain a before after x y → Grows x y
 again_one a before after x y (inl (beyond, is, same)) = stays x y same
-again_one a before after x y (inr (r, cleared, is)) = grown (cleared_more a r x y cleared)
+again_one a before after x y (inr (short, r, cleared, is)) = grown (cleared_more a r x y cleared)
 
 again : (shorts : List ℕ) (before after : Left) (x y : Talk) → AreAskedAgain shorts before after x y → Grows x y
 again [] before after x y (is, same) = stays x y same

@@ -55,7 +55,7 @@ run_so is_up is_sound holds block before others wanted by was mid keep x at y li
     (inr (aim, (after, last, count, read, asked, so, says))) =
     then_more (begun_so is_up is_sound holds block others wanted was mid x at by pass is)
     (at_last_more pass after.enrolled last at y (ended_there _ last.is_there (open_well _ _ _ (sym so ∙ well))) asked)
-run_so is_up is_sound holds block before others wanted by was mid keep x at y lines (Err why) ended well is (fault, line, so) =
+run_so is_up is_sound holds block before others wanted by was mid keep x at y lines (Err why) ended well is ((fault, line, so), stores, same) =
     absurd (ok_err _ (sym well ∙ so))
 
 -- and one that ended since gear share an address, as none does that stops for a fault
@@ -94,13 +94,13 @@ run_shared is_up is_sound holds block before others wanted by was mid keep x at 
 run_shared is_up is_sound holds block before others wanted by was mid keep x at y lines (Ok (begun.Commissioned pass)) ended shared is
     (inr (aim, (after, last, count, read, asked, so, says))) =
     joined (begun_so is_up is_sound holds block others wanted was mid x at by pass is) (at_last pass after.enrolled last at y asked)
-run_shared is_up is_sound holds block before others wanted by was mid keep x at y lines (Err why) ended shared is (fault, line, so) =
+run_shared is_up is_sound holds block before others wanted by was mid keep x at y lines (Err why) ended shared is ((fault, line, so), stores, same) =
     absurd (no_fault fault line (sym so ∙ shared))
 
 run_more : {S : Type 0} (is_up is_sound : S → Type 0) (holds : S → List Record → Type 0) (block : Block) (told : Said → Type 0)
     (others : List Block) (setup : Setup) (before : Kept) (was keep : S) (x y : Talk) (ended : Result (Unit {0}) Failure)
     → ended ≡ Ok (tt {0}) → HasRun is_up is_sound holds block told others setup before was keep x y ended → IsMore x y
-run_more is_up is_sound holds block told others setup before was keep x y ended well (came, mid, at, lines, is, comes, said) =
+run_more is_up is_sound holds block told others setup before was keep x y ended well (came, mid, at, lines, is, stops, comes, said) =
     run_so is_up is_sound holds block before others setup.idle_passes setup.start was mid keep x at y lines came ended well is comes
 
 -- ---------------------------------------------------------------- gear that are away
@@ -196,7 +196,7 @@ run_over_more is_up is_sound holds kept_of block told others setup was keep x y 
     (inr (before, opened, ended, mid, at, read, run, inl (other, so, stores, same))) =
     more_then (run_more is_up is_sound holds block told others setup before opened mid x at ended (sym so ∙ well) run) (stays at y same)
 run_over_more is_up is_sound holds kept_of block told others setup was keep x y (Ok done) well
-    (inr (before, opened, ended, mid, at, read, (came, first, then, lines, is, comes, said), inr (mends, shared, (wanted, named, missing, of, it)))) =
+    (inr (before, opened, ended, mid, at, read, (came, first, then, lines, is, stops, comes, said), inr (mends, shared, (wanted, named, missing, of, it)))) =
     then_more
     (run_shared is_up is_sound holds block before others setup.idle_passes setup.start opened first mid x then at lines came ended shared is comes)
     (mended_so is_up is_sound holds kept_of block told others wanted [] mid keep at y it)

@@ -1,15 +1,15 @@
-use Rattle.std.proofs.Common.{◌≡◌, ◌⊎◌, ℕ, ◌+◌, List, [], ◌∷◌, Option, Ok, Err, refl, sym, ap, inl, inr}
+use Rattle.std.proofs.Common.{◌≡◌, ◌⊎◌, ℕ, ◌+◌, List, [], ◌∷◌, Option, Some, None, Ok, Err, refl, sym, ap, inl, inr}
 use Rattle.std.{proofs.lemmas.Bool.false≢true, specs.declared.alloc.Global.Global, specs.declared.string.String.String}
 use Rattle.dali_script.specs.{Records.Kept, declared.block.Block.Block, declared.orders.Input.TheVariants.Survey, declared.records.Record.Record}
 use Rattle.dali_commissioning.specs.{Drivers.Talk, Drivers.talk_of, declared.census.Reply.Reply}
 use Rattle.dali_commissioning.specs.declared.census.Reply.TheVariants as heard
 use Rattle.dali_commissioning.specs.declared.driver.DriverLink.{DriverLink}
 use Rattle.dali_replacement.specs.declared.come.Come.{Come, TheVariants.Nowhere, TheVariants.Reserved, TheVariants.Given}
-use Rattle.dali_replacement.specs.Standing.{IsHeard, AreHeard}
+use Rattle.dali_replacement.specs.{Standing.{IsHeard, AreHeard}, Swapping.names_of}
 use Rattle.dali_commission_said.specs.declared.said.Said.{Said}
 use Rattle.dali_commission_tasks.specs.declared.tasks.Replacement.{Replacement}
-use Rattle.dali_commission_stores.specs.{Calls.Look, declared.records.Seen.Seen}
-use Rattle.dali_commission_replaced.specs.Asking.{HasAskedOthers, IsConfirmed, HasGivenSo, GivesFirst, HasReplaced}
+use Rattle.dali_commission_stores.specs.{Calls.{Call, Look}, declared.records.Seen.Seen}
+use Rattle.dali_commission_replaced.specs.Asking.{HasAskedOthers, IsConfirmed, HasGivenSo, GivesFirst, HasReplacedSo, HasReplaced}
 use Rattle.dali_commission_program.specs.Nothing.{IsNothingPut, HasLookedIn}
 use Rattle.dali_commission_program.proofs.Growing.{Grows, IsMore, stays, joined, more_then, grown, more_is_not_nothing}
 use Rattle.dali_commission_program.proofs.{Asking.answered_more, Ending.ok_err, Ending.at_last, Mended.runs_put}
@@ -70,22 +70,28 @@ nothing_looked come x y nothing (inl is) = is
 nothing_looked come x y nothing (inr more) = absurd (more_is_not_nothing x y more nothing)
 
 pub replaced : {F K R W : Type 0} (is_up is_sound : K → Type 0) (holds : K → List Record → Type 0) (kept_of : K → Kept) (block_of : K → Block)
-    (saw : F → Look → Type 0) (opens : F → Seen → K → Type 0) (remaining : R → Option (List ℕ)) (contents : W → Option (List ℕ))
-    (told : Said → Type 0) (wanted : Replacement) (random : ℕ) (x y : DriverLink R W)
-    → HasReplaced is_up is_sound holds kept_of block_of saw opens remaining contents told wanted random x y
+    (made : F → F → Call → Type 0) (saw : F → Look → Type 0) (opens : F → Seen → K → Type 0) (remaining : R → Option (List ℕ))
+    (contents : W → Option (List ℕ)) (told : Said → Type 0) (wanted : Replacement) (records : List (String Global)) (random : ℕ) (was now : F)
+    (x y : DriverLink R W)
+    → HasReplaced is_up is_sound holds kept_of block_of made saw opens remaining contents told wanted records random was now x y
     → IsNothingPut (talk_of remaining contents x) (talk_of remaining contents y)
-    → HasLookedIn is_up is_sound holds kept_of block_of saw opens remaining contents told wanted random x y
-replaced is_up is_sound holds kept_of block_of saw opens remaining contents told wanted random x y (inl (stores, names, is)) nothing =
-    absurd (more_is_not_nothing _ _ (confirmed_more saw told wanted.short wanted.missing.items stores names random
+    → HasLookedIn is_up is_sound holds kept_of block_of made saw opens remaining contents told wanted random x y
+replaced is_up is_sound holds kept_of block_of made saw opens remaining contents told wanted records random was now x y
+    (names, at, Some swap, lies, apart, settled, (same, is)) nothing =
+    absurd (more_is_not_nothing _ _ (confirmed_more saw told wanted.short wanted.missing.items at (names_of swap) random
     (talk_of remaining contents x) (talk_of remaining contents y) is) nothing)
-replaced is_up is_sound holds kept_of block_of saw opens remaining contents told wanted random x y (inr (names, all, news, it, says)) nothing = (
-  names,
-  all,
-  it,
-  nothing_looked it.come (talk_of remaining contents x) (talk_of remaining contents y) nothing
-      (looked_or_more it.come _ (talk_of remaining contents it.before) (talk_of remaining contents it.after) _
-      (others_more wanted.short it.come it.table wanted.missing.items _ _ it.others)
-      (given_first is_up is_sound holds kept_of block_of saw opens remaining contents told wanted.short it.come it.table it.stores it.name it.before
-      it.after it.first)
-      (answered_more wanted.short (heard.Random random) _ _ it.last)),
-)
+replaced is_up is_sound holds kept_of block_of made saw opens remaining contents told wanted records random was now x y
+    (names, at, None, lies, apart, settled, anew) nothing =
+    let it : HasReplacedSo is_up is_sound holds kept_of block_of made saw opens remaining contents told wanted names anew.all random at x y =
+    anew.replaced in (
+      names,
+      anew.all,
+      at,
+      it,
+      nothing_looked it.come (talk_of remaining contents x) (talk_of remaining contents y) nothing
+          (looked_or_more it.come _ (talk_of remaining contents it.before) (talk_of remaining contents it.after) _
+          (others_more wanted.short it.come it.table wanted.missing.items _ _ it.others)
+          (given_first is_up is_sound holds kept_of block_of saw opens remaining contents told wanted.short it.come it.table it.stores it.name it.before
+          it.after it.first)
+          (answered_more wanted.short (heard.Random random) _ _ it.last)),
+    )

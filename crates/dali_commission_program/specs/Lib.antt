@@ -1,4 +1,5 @@
 pub mod Done
 pub mod Nothing
+pub mod Ruled
 pub mod Object
 pub mod Written

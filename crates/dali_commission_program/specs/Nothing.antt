@@ -37,15 +37,16 @@ PutsSomething {F = F} {R = R} {W = W} is_up is_sound holds kept_of block_of made
 -- A GEAR WITHOUT SHORT ADDRESS WAS LOOKED FOR in a replacement
 abbrev pub HasLookedIn : {F K R W : Type 0} (is_up is_sound : K → Type 0)
     (holds : K → List Record → Type 0) (kept_of : K → Kept) (block_of : K → Block)
-    → (F → Look → Type 0) → (F → Seen → K → Type 0) → (R → Option (List ℕ))
-    → (W → Option (List ℕ)) → (Said → Type 0) → Replacement → ℕ → DriverLink R W → DriverLink R W
-    → Type 0
-HasLookedIn is_up is_sound holds kept_of block_of saw opens remaining contents told wanted random x
-    y =
+    → (F → F → Call → Type 0) → (F → Look → Type 0) → (F → Seen → K → Type 0)
+    → (R → Option (List ℕ)) → (W → Option (List ℕ)) → (Said → Type 0) → Replacement → ℕ
+    → DriverLink R W → DriverLink R W → Type 0
+HasLookedIn {F = F} is_up is_sound holds kept_of block_of made saw opens remaining contents told
+    wanted random x y =
     (names : List (String Global))
     × (all : List Kept)
-    × (it : HasReplacedSo is_up is_sound holds kept_of block_of saw opens remaining contents told
-    wanted names all random x y)
+    × (at : F)
+    × (it : HasReplacedSo is_up is_sound holds kept_of block_of made saw opens remaining contents
+    told wanted names all random at x y)
     × (it.come ≡ Nowhere)
 
 -- A REPLACEMENT THAT ENDED WELL HAS PUT SOMETHING, or it has looked for a gear: what is put until
@@ -62,5 +63,5 @@ PutsOrLooks {F = F} {R = R} {W = W} is_up is_sound holds kept_of block_of made s
     records others was now x y (Ok (tt {0})) (task.Replace wanted)
     → IsNothingPut (talk_of remaining contents x) (talk_of remaining contents y)
     → (random : ℕ)
-    × HasLookedIn is_up is_sound holds kept_of block_of saw opens remaining contents told wanted
+    × HasLookedIn is_up is_sound holds kept_of block_of made saw opens remaining contents told wanted
     random x y

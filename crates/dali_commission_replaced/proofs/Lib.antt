@@ -1,1 +1,3 @@
+pub mod Finished
 pub mod Given
+pub mod Ruled

@@ -1,5 +1,5 @@
-use Rattle.std.specs.Prelude.{◌≡◌, ◌⊎◌, ℕ, true, List, [], length, Option, Some, option_map}
-use Rattle.std.specs.Prelude.{slice_get, Ok, OnOk, string_bytes}
+use Rattle.std.specs.Prelude.{◌≡◌, ◌⊎◌, ℕ, true, List, [], length, map, Option, Some, None}
+use Rattle.std.specs.Prelude.{option_map, slice_get, Ok, OnOk, string_bytes}
 use Rattle.std.specs.declared.alloc.Global.{Global}
 use Rattle.std.specs.declared.string.String.{String}
 use Rattle.dali_script.specs.declared.block.Block.{Block}
@@ -18,19 +18,24 @@ use Rattle.dali_replacement.specs.declared.come.Come.TheVariants.{Given}
 use Rattle.dali_replacement.specs.Come.{may_be_heard}
 use Rattle.dali_replacement.specs.Permit.{HasGiven, HasLooked, alone}
 use Rattle.dali_replacement.specs.Standing.{AreHeard, AreThere}
-use Rattle.dali_replacement.specs.Tables.{IsGathered}
+use Rattle.dali_replacement.specs.Swapping.{address_of, names_of, texts_of}
+use Rattle.dali_replacement.specs.declared.swapping.Swap.{Swap}
+use Rattle.dali_replacement.specs.Tables.{IsGathered, IsComplete}
 use Rattle.dali_commission_said.specs.declared.progress.Aim.{Aim}
 use Rattle.dali_commission_said.specs.declared.said.Said.{Said}
 use Rattle.dali_commission_said.specs.Reports.{heard_of}
 use Rattle.dali_commission_said.specs.Said.{AreTold, WhySaid, heard_said}
-use Rattle.dali_commission_stores.specs.Calls.{Look}
+use Rattle.dali_commission_stores.specs.Calls.{Call, Look}
 use Rattle.dali_commission_stores.specs.declared.records.Seen.{Seen}
 use Rattle.dali_commission_stores.specs.Lent.{IsLent, IsOpened, AreRead}
+use Rattle.dali_commission_stores.specs.Settled.{IsExchanged}
 use Rattle.dali_commission_stores.specs.Settling.{new_at}
 use Rattle.dali_commission_asked.specs.declared.ending.AtLast.{AtLast}
 use Rattle.dali_commission_asked.specs.Ending.{HasAskedAtLast, pass_at_last}
 use Rattle.dali_commission_tasks.specs.declared.tasks.Replacement.{Replacement}
-use Rattle.dali_commission_replaced.specs.Replacing.{IsGiver}
+use Rattle.dali_commission_replaced.specs.Finishing.{AreFinished}
+use Rattle.dali_commission_replaced.specs.Replacing.{IsGiver, HasCome, AreAsideIf, AreAtPlaces}
+use Rattle.dali_commission_replaced.specs.Replacing.{AreApart, AreUnannounced}
 use Rattle.dali_commission_replaced.specs.Tellings.{ConfirmedTold}
 
 -- WHAT `replace` PUTS. First the short address is asked, and then each gear of the table: what is
@@ -113,20 +118,23 @@ GivesFirst is_up is_sound holds kept_of block_of saw opens remaining contents to
     ⊎ HasGivenIn is_up is_sound holds kept_of block_of saw opens remaining contents told a come
     table stores name x y
 
--- A REPLACEMENT asks for all others, gives the address in the giver's new file, and asks for the
--- new gear at last.
+-- A REPLACEMENT goes on where an earlier call has come to, by the new files that lie there once
+-- these are put aside, if it is to begin again. It asks for all others, gives the address in the
+-- giver's new file, and asks for the new gear at last.
 pub record HasReplacedSo {F K R W : Type 0} (is_up is_sound : K → Type 0)
     (holds : K → List Record → Type 0) (kept_of : K → Kept) (block_of : K → Block)
-    (saw : F → Look → Type 0) (opens : F → Seen → K → Type 0) (remaining : R → Option (List ℕ))
-    (contents : W → Option (List ℕ)) (told : Said → Type 0) (wanted : Replacement)
-    (names : List (String Global)) (all : List Kept) (random : ℕ) (x y : DriverLink R W)
-    : Type 0 where
+    (made : F → F → Call → Type 0) (saw : F → Look → Type 0) (opens : F → Seen → K → Type 0)
+    (remaining : R → Option (List ℕ)) (contents : W → Option (List ℕ)) (told : Said → Type 0)
+    (wanted : Replacement) (names : List (String Global)) (all : List Kept) (random : ℕ) (was : F)
+    (x y : DriverLink R W) : Type 0 where
   pub stores : F
+  pub aside : AreAsideIf wanted.is_again made saw told names was stores
   pub giver : ℕ
   pub gives : IsGiver wanted all giver
   pub name : List ℕ
   pub at : option_map (λ it. string_bytes it) (slice_get names giver) ≡ Some name
   pub come : Come
+  pub comes : HasCome saw stores names all giver wanted.short come
   pub table : Kept
   pub gathered : IsGathered wanted.short all table
   pub before : DriverLink R W
@@ -138,22 +146,63 @@ pub record HasReplacedSo {F K R W : Type 0} (is_up is_sound : K → Type 0)
   pub last : IsAnswered wanted.short (heard.Random random) (talk_of remaining contents after)
       (talk_of remaining contents y)
 
--- WHAT A CALL PUTS that ended well, with the new gear that was heard: an exchange of an earlier
--- call is confirmed, or the luminaire is replaced. It is said which gear has the address now.
+-- A LUMINAIRE IS REPLACED in all records of a site, once a copy of each was read and while they are
+-- held: no journal lies beside any then, and the new tables are complete. The files are exchanged,
+-- and it is said which gear has the address now.
+pub record HasReplacedAnew {F K R W : Type 0} (is_up is_sound : K → Type 0)
+    (holds : K → List Record → Type 0) (kept_of : K → Kept) (block_of : K → Block)
+    (made : F → F → Call → Type 0) (saw : F → Look → Type 0) (opens : F → Seen → K → Type 0)
+    (remaining : R → Option (List ℕ)) (contents : W → Option (List ℕ)) (told : Said → Type 0)
+    (wanted : Replacement) (names : List (String Global)) (random : ℕ) (was now : F)
+    (x y : DriverLink R W) : Type 0 where
+  pub copies : List Kept
+  pub read : AreRead saw was names [] copies
+  pub all : List Kept
+  pub held : AreRead saw was names [] all
+  pub bare : AreUnannounced saw was names
+  pub replaced : HasReplacedSo is_up is_sound holds kept_of block_of made saw opens remaining
+      contents told wanted names all random was x y
+  pub swap : Swap
+  pub of : address_of swap ≡ wanted.short
+  pub files : texts_of swap ≡ map string_bytes names
+  pub news : List Kept
+  pub count : ℕ
+  pub complete : IsComplete count wanted.short random all news
+  pub at : F
+  pub exchanged : IsExchanged made saw swap at now
+  pub says : ConfirmedTold told wanted.short random news
+
+-- so it is if no exchange of an earlier call was brought to its end; else that one is confirmed
+abbrev pub IsReplacedAfter : {F K R W : Type 0} (is_up is_sound : K → Type 0)
+    (holds : K → List Record → Type 0) (kept_of : K → Kept) (block_of : K → Block)
+    → (F → F → Call → Type 0) → (F → Look → Type 0) → (F → Seen → K → Type 0)
+    → (R → Option (List ℕ)) → (W → Option (List ℕ)) → (Said → Type 0) → Replacement
+    → List (String Global) → ℕ → Option Swap → F → F → DriverLink R W → DriverLink R W → Type 0
+IsReplacedAfter is_up is_sound holds kept_of block_of made saw opens remaining contents told wanted
+    names random None was now x y =
+    HasReplacedAnew is_up is_sound holds kept_of block_of made saw opens remaining contents told
+    wanted names random was now x y
+IsReplacedAfter is_up is_sound holds kept_of block_of made saw opens remaining contents told wanted
+    names random (Some swap) was now x y =
+    (now ≡ was)
+    × IsConfirmed saw told wanted.short wanted.missing.items was (names_of swap) random
+    (talk_of remaining contents x) (talk_of remaining contents y)
+
+-- WHAT A CALL PUTS that ended well, with the new gear that was heard. The files of these records
+-- are apart where they lie; each exchange that an earlier call has begun is brought to its end, or
+-- taken back; and then the new gear is confirmed, or the luminaire is replaced.
 abbrev pub HasReplaced : {F K R W : Type 0} (is_up is_sound : K → Type 0)
     (holds : K → List Record → Type 0) (kept_of : K → Kept) (block_of : K → Block)
-    → (F → Look → Type 0) → (F → Seen → K → Type 0) → (R → Option (List ℕ))
-    → (W → Option (List ℕ)) → (Said → Type 0) → Replacement → ℕ → DriverLink R W → DriverLink R W
-    → Type 0
-HasReplaced {F = F} is_up is_sound holds kept_of block_of saw opens remaining contents told wanted
-    random x y =
-    ((stores : F)
-    × (names : List (String Global))
-    × IsConfirmed saw told wanted.short wanted.missing.items stores names random
-    (talk_of remaining contents x) (talk_of remaining contents y))
-    ⊎ ((names : List (String Global))
-    × (all : List Kept)
-    × (news : List Kept)
-    × HasReplacedSo is_up is_sound holds kept_of block_of saw opens remaining contents told wanted
-    names all random x y
-    × ConfirmedTold told wanted.short random news)
+    → (F → F → Call → Type 0) → (F → Look → Type 0) → (F → Seen → K → Type 0)
+    → (R → Option (List ℕ)) → (W → Option (List ℕ)) → (Said → Type 0) → Replacement
+    → List (String Global) → ℕ → F → F → DriverLink R W → DriverLink R W → Type 0
+HasReplaced {F = F} is_up is_sound holds kept_of block_of made saw opens remaining contents told
+    wanted records random was now x y =
+    (names : List (String Global))
+    × (at : F)
+    × (earlier : Option Swap)
+    × AreAtPlaces saw was records [] names
+    × AreApart names
+    × AreFinished made saw told wanted.short names was at earlier
+    × IsReplacedAfter is_up is_sound holds kept_of block_of made saw opens remaining contents told
+    wanted names random earlier at now x y

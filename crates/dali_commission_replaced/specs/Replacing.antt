@@ -1,13 +1,19 @@
-use Rattle.std.specs.Prelude.{◌≡◌, ◌≢◌, ◌≤◌, ◌⊎◌, ℕ, List, [], ◌∷◌, length, string_bytes}
+use Rattle.std.specs.Prelude.{◌≡◌, ◌≢◌, ◌≤◌, ◌⊎◌, ℕ, Bool, true, false, List, [], ◌∷◌, ◌++◌}
+use Rattle.std.specs.Prelude.{length, map, Some, None, option_map, slice_get, string_bytes}
 use Rattle.std.specs.declared.alloc.Global.{Global}
 use Rattle.std.specs.declared.string.String.{String}
 use Rattle.dali_script.specs.Records.{Kept, HasAddress}
+use Rattle.dali_replacement.specs.declared.come.Come.{Come}
 use Rattle.dali_replacement.specs.declared.tables.Giver.TheVariants.{One}
 use Rattle.dali_replacement.specs.Tables.{giver_from, IsComplete}
 use Rattle.dali_replacement.specs.Permit.{confirmed_at, confirmed_random}
-use Rattle.dali_replacement.specs.Swapping.{address_of}
+use Rattle.dali_replacement.specs.Swapping.{address_of, texts_of}
+use Rattle.dali_commission_said.specs.declared.said.Said.{Said}
 use Rattle.dali_commission_stores.specs.Calls.{Call, Look}
+use Rattle.dali_commission_stores.specs.Calls as look
 use Rattle.dali_commission_stores.specs.Keeping.{IsAside}
+use Rattle.dali_commission_stores.specs.Seen.{ComeSo, IsFound}
+use Rattle.dali_commission_stores.specs.Settling.{new_at}
 use Rattle.dali_commission_replaced.specs.declared.replacing.DueSwap.{DueSwap}
 use Rattle.dali_commission_tasks.specs.declared.tasks.Replacement.{Replacement}
 
@@ -20,18 +26,63 @@ IsGiver wanted all number =
     × (length all ≡ 1 → number ≡ 0)
     × (length all ≢ 1 → giver_from 0 wanted.short all ≡ One number)
 
--- A SWAP IS DUE only with new tables that are complete, and with the new gear that was heard
-abbrev pub IsDue : ℕ → List Kept → DueSwap → Type 0
-IsDue a all due =
+-- A SWAP IS DUE only of these files, with new tables that are complete, and with the new gear that
+-- was heard
+abbrev pub IsDue : ℕ → List (String Global) → List Kept → DueSwap → Type 0
+IsDue a names all due =
     (address_of due.swap ≡ a)
     × (confirmed_at due.confirmed ≡ a)
+    × (texts_of due.swap ≡ map string_bytes names)
     × ((n : ℕ) × IsComplete n a (confirmed_random due.confirmed) all due.news.items)
 
+-- NEW FILES ARE PUT ASIDE, that of each name; in a replacement if it is to begin again
 abbrev pub AreAside : {F : Type 0} → (F → F → Call → Type 0) → (F → Look → Type 0)
-    → List (String Global) → F → F → Type 0
-AreAside made saw [] x y = x ≡ y
-AreAside made saw (name ∷ more) x y =
-    (z : _) × IsAside made saw (string_bytes name) x z × AreAside made saw more z y
+    → (Said → Type 0) → List (String Global) → F → F → Type 0
+AreAside made saw told [] x y = x ≡ y
+AreAside made saw told (name ∷ more) x y =
+    (z : _) × IsAside made saw told (string_bytes name) x z × AreAside made saw told more z y
+
+abbrev pub AreAsideIf : {F : Type 0} → Bool → (F → F → Call → Type 0) → (F → Look → Type 0)
+    → (Said → Type 0) → List (String Global) → F → F → Type 0
+AreAsideIf true made saw told names x y = AreAside made saw told names x y
+AreAsideIf false made saw told names x y = x ≡ y
+
+-- WHERE FILES LIE, that of each name, behind others
+abbrev pub AreAtPlaces : {F : Type 0} → (F → Look → Type 0) → F → List (String Global)
+    → List (String Global) → List (String Global) → Type 0
+AreAtPlaces saw x [] before after = after ≡ before
+AreAtPlaces saw x (name ∷ more) before after =
+    (place : String Global)
+    × saw x (look.Lies (string_bytes name) (string_bytes place))
+    × AreAtPlaces saw x more (before ++ place ∷ []) after
+
+-- FILES ARE APART: none is another one, and none lies where another one's new file is to lie
+abbrev pub IsApart : List ℕ → List ℕ → Type 0
+IsApart a b = (a ≢ b) × (a ≢ new_at b) × (b ≢ new_at a)
+
+abbrev pub IsApartFrom : List ℕ → List (String Global) → Type 0
+IsApartFrom a [] = Unit {0}
+IsApartFrom a (other ∷ more) = IsApart a (string_bytes other) × IsApartFrom a more
+
+abbrev pub AreApart : List (String Global) → Type 0
+AreApart [] = Unit {0}
+AreApart (name ∷ more) = IsApartFrom (string_bytes name) more × AreApart more
+
+-- NO JOURNAL lies beside any of some files
+abbrev pub AreUnannounced : {F : Type 0} → (F → Look → Type 0) → F → List (String Global) → Type 0
+AreUnannounced saw x [] = Unit {0}
+AreUnannounced saw x (name ∷ more) =
+    IsFound saw x (string_bytes name) None × AreUnannounced saw x more
+
+-- HOW FAR AN EARLIER CALL HAS COME, by the new file of the one who gives, and its old one
+abbrev pub HasCome : {F : Type 0} → (F → Look → Type 0) → F → List (String Global) → List Kept → ℕ
+    → ℕ → Come → Type 0
+HasCome saw x names all giver short come =
+    (name : List ℕ)
+    × (old : Kept)
+    × (option_map (λ it. string_bytes it) (slice_get names giver) ≡ Some name)
+    × (slice_get all giver ≡ Some old)
+    × ComeSo saw x name old true short come
 
 -- a table has a gear at a short address
 abbrev pub IsAnywhere : ℕ → List Kept → Type 0

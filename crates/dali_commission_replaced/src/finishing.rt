@@ -1,13 +1,14 @@
 //! An exchange of files that an earlier call has begun is brought to its end, and the bus is asked what is there.
 
-ghost use Rattle.std.specs.Prelude.{◌≡◌, true, IfOk, IfSome};
+ghost use Rattle.std.specs.Prelude.{◌≡◌, IfOk, OnOk};
 ghost use Rattle.dali_commissioning.specs.Drivers.{talk_of};
 ghost use Rattle.dali_replacement.specs.Permit.{confirmed_at, confirmed_random};
 ghost use Rattle.dali_replacement.specs.Swapping.{address_of, names_of};
 ghost use Rattle.dali_replacement.specs.Tables.{AreGiven};
 ghost use Rattle.dali_commission_said.specs.Failures.{although_exchanged};
-ghost use Rattle.dali_commission_stores.specs.Settled.{IsSettled};
+ghost use Rattle.dali_commission_stores.specs.Settled.{IsSettled, IsAlone};
 ghost use Rattle.dali_commission_replaced.specs.Asking.{HasConfirmed, IsConfirmed};
+ghost use Rattle.dali_commission_replaced.specs.Finishing.{IsFinished, IsFoundSo, AreFinished};
 ghost use Rattle.dali_commission_replaced.specs.Tellings.{FinishTold};
 
 use crate::confirming::Asking;
@@ -27,6 +28,7 @@ fn finishes<S: Voice + AllocGlobal, F: Stores>(
     swap: &Swap,
 ) -> Result<bool, Failure>
     ensures settled { IfOk result (IsSettled F.made F.saw swap.now stores.old stores.new) }
+    ensures alone { OnOk result (IsAlone F.saw swap.now stores.old) }
     ensures told { IfOk result (λ is_done. FinishTold (S.told system.now) (address_of swap.now) is_done) }
 {
     let is_done = settle(system, stores, swap)?;
@@ -46,13 +48,27 @@ fn finished<S: Voice + AllocGlobal, F: Stores>(
     swap: Swap,
     short: Short,
 ) -> Result<Option<Swap>, Failure>
-    ensures { IfOk result (λ done. IfSome done (λ swap. (address_of swap ≡ short)
-        × IsSettled F.made F.saw swap stores.old stores.new true)) }
+    ensures { IfOk result (IsFinished F.made F.saw (S.told system.now) short swap stores.old stores.new) }
 {
     if finishes(system, stores, &swap)? && swap.short() == short {
         Ok(Some(swap))
     } else {
         Ok(None)
+    }
+}
+
+/// Brings the swap of an earlier call to its end of which a journal lies beside this file, if one does.
+fn finishes_found<S: Voice + AllocGlobal, F: Stores>(
+    system: &S,
+    stores: &mut F,
+    name: &str,
+    short: Short,
+) -> Result<Option<Swap>, Failure>
+    ensures { IfOk result (IsFoundSo F.made F.saw (S.told system.now) short name.now stores.old stores.new) }
+{
+    match or_say(system, name, found(system.alloc(), stores, name))? {
+        Some(swap) => finished(system, stores, swap, short),
+        None => Ok(None),
     }
 }
 
@@ -63,16 +79,12 @@ pub(crate) fn exchanged<S: Voice + AllocGlobal, F: Stores>(
     names: &[String],
     short: Short,
 ) -> Result<Option<Swap>, Failure>
-    ensures { IfOk result (λ done. IfSome done (λ swap. (address_of swap ≡ short)
-        × ((from to : F) × IsSettled F.made F.saw swap from to true))) }
+    ensures { IfOk result (AreFinished F.made F.saw (S.told system.now) short names.now stores.old stores.new) }
 {
     let [name, more @ ..] = names else {
         return Ok(None);
     };
-    let done = match or_say(system, name, found(system.alloc(), stores, name))? {
-        Some(swap) => finished(system, stores, swap, short)?,
-        None => None,
-    };
+    let done = finishes_found(system, stores, name, short)?;
     match exchanged(system, stores, more, short)? {
         Some(later) => Ok(Some(later)),
         None => Ok(done),

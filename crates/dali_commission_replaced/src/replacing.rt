@@ -1,12 +1,14 @@
 //! `replace`: a new luminaire gets the short address of one that is gone.
 
-ghost use Rattle.std.specs.Prelude.{◌≡◌, ◌↔◌, ◌⊎◌, ℕ, List, true, Some, IsTrue, IfOk, OnOk, string_bytes, option_map};
-ghost use Rattle.std.specs.Prelude.{slice_get, MatchOption, Ok};
+ghost use Rattle.std.specs.Prelude.{◌≡◌, ◌↔◌, ◌⊎◌, ℕ, List, [], ◌++◌, map, true, Some, IsTrue, IfOk, OnOk};
+ghost use Rattle.std.specs.Prelude.{string_bytes, option_map, slice_get, MatchOption, Ok};
 ghost use Rattle.dali_script.specs.Records.{HasAddress};
 ghost use Rattle.dali_replacement.specs.Permit.{confirmed_at, others_at};
 ghost use Rattle.dali_replacement.specs.Tables.{IsGathered, Lacks};
 ghost use Rattle.dali_commission_stores.specs.Calls.{Lies, Read};
-ghost use Rattle.dali_commission_replaced.specs.Replacing.{IsAnywhere, IsGiver, IsDue, AreAside};
+ghost use Rattle.dali_commission_replaced.specs.Replacing.{IsAnywhere, IsGiver, IsDue, AreAside, AreAsideIf, HasCome};
+ghost use Rattle.dali_commission_replaced.specs.Replacing.{AreAtPlaces, IsApart, IsApartFrom, AreApart};
+ghost use Rattle.dali_commission_replaced.specs.Replacing.{AreUnannounced};
 ghost use Rattle.dali_commission_said.specs.Reports.{own_rows};
 ghost use Rattle.dali_commission_said.specs.Tables.{rows};
 ghost use Rattle.dali_commission_stores.specs.Seen.{ComeSo};
@@ -28,7 +30,7 @@ use dali_commission_said::{
 };
 use dali_commission_stores::{
     Borrower, Filling, Holder, Reading, Stores, exchange, found, free_number, kept, lend,
-    lend_copy, put_one_aside, read, say_kept,
+    lend_copy, put_one_aside, read, read_all, say_kept,
 };
 use dali_commission_tasks::Replacement;
 use dali_commissioning::{DriverLink, Ended, outside};
@@ -220,10 +222,8 @@ impl<S: Voice + AllocGlobal> Replacing<'_, S> {
 
     /// How far an earlier call has come. No other new file has another gear there than the giver's.
     fn all_come<F: Stores>(&self, stores: &F, all: &[Kept], giver: usize) -> Result<Come, Failure>
-        ensures { IfOk result (λ come. (name : List ℕ) × (old : Kept)
-            × (option_map (λ it. string_bytes it) (slice_get self.now.names.now giver) ≡ Some name)
-            × (slice_get all.now giver ≡ Some old)
-            × ComeSo F.saw stores.now name old true self.now.asking.now.wanted.now.short come) }
+        ensures { IfOk result (HasCome F.saw stores.now self.now.names.now all.now giver
+            self.now.asking.now.wanted.now.short) }
     {
         let (Some(name), Some(old)) = (self.names.get(giver), all.get(giver)) else {
             return Err(REFUSED);
@@ -241,6 +241,8 @@ impl<S: Voice + AllocGlobal> Replacing<'_, S> {
     fn plan<F: Stores>(&self, stores: &F, all: &[Kept]) -> Result<Plan, Failure>
         ensures all { IfOk result (λ plan. IsGathered self.now.asking.now.wanted.now.short all.now plan.table) }
         ensures giver { IfOk result (λ plan. IsGiver self.now.asking.now.wanted.now all.now plan.giver) }
+        ensures come { IfOk result (λ plan. HasCome F.saw stores.now self.now.names.now all.now plan.giver
+            self.now.asking.now.wanted.now.short plan.come) }
     {
         let table = table(self.asking.wanted, all)?;
         let giver = giver(self.asking.wanted, all)?;
@@ -290,15 +292,12 @@ impl<S: Voice + AllocGlobal> Replacing<'_, S> {
     }
 
     /// The names of the files.
-    fn copied_names(&self) -> Result<Vec<String>, Failure> {
-        let mut names = Vec::new(self.asking.system.alloc());
-        for name in self.names {
-            add(
-                &mut names,
-                String::from_str(self.asking.system.alloc(), name)?,
-            )?;
-        }
-        Ok(names)
+    fn copied_names(&self) -> Result<Vec<String>, Failure>
+        ensures { IfOk result (λ copies. map string_bytes copies.items ≡ map string_bytes self.now.names.now) }
+    {
+        let mut copies = Vec::new(self.asking.system.alloc());
+        copy_all(self.asking.system.alloc(), self.names, &mut copies)?;
+        Ok(copies)
     }
 
     /// Gives the short address in the new file of the giver.
@@ -369,7 +368,7 @@ impl<S: Voice + AllocGlobal> Replacing<'_, S> {
         others: OthersThere,
         first: &Kept,
     ) -> Result<DueSwap, Failure>
-        ensures due { IfOk result (IsDue (others_at others) all.now) }
+        ensures due { IfOk result (IsDue (others_at others) self.now.names.now all.now) }
         ensures last { IfOk result (λ due. IsAnswered (others_at others)
             (heard.Random (confirmed_random due.confirmed)) (talk_of R.remaining W.contents driver.old)
             (talk_of R.remaining W.contents driver.new)) }
@@ -395,16 +394,14 @@ impl<S: Voice + AllocGlobal> Replacing<'_, S> {
         driver: &mut DriverLink<R, W>,
         all: &[Kept],
     ) -> Result<DueSwap, Failure>
-        ensures due { IfOk result (IsDue self.old.asking.now.wanted.now.short all.now) }
+        ensures due { IfOk result (IsDue self.old.asking.now.wanted.now.short self.old.names.now all.now) }
         ensures replaced { IfOk result (λ due. HasReplacedSo F.Open.is_up F.Open.is_sound F.Open.holds F.Open.kept
-            F.Open.block
+            F.Open.block F.made
             F.saw F.opens R.remaining W.contents (S.told self.old.asking.now.system.now) self.old.asking.now.wanted.now
-            self.old.names.now all.now (confirmed_random due.confirmed) driver.old driver.new) }
+            self.old.names.now all.now (confirmed_random due.confirmed) stores.old driver.old driver.new) }
     {
         let asking = self.asking;
-        if asking.wanted.is_again {
-            put_aside(asking.system, stores, self.names)?;
-        }
+        put_aside_if(asking.wanted.is_again, asking.system, stores, self.names)?;
         let plan = self.plan(stores, all)?;
         let giver = plan.giver;
         let others = asking.others_there(driver, plan.come, plan.table, self.report)?;
@@ -423,13 +420,55 @@ fn put_aside<S: Voice + AllocGlobal, F: Stores>(
     stores: &mut F,
     names: &[String],
 ) -> Result<(), Failure>
-    ensures { OnOk result (AreAside F.made F.saw names.now stores.old stores.new) }
+    ensures { OnOk result (AreAside F.made F.saw (S.told system.now) names.now stores.old stores.new) }
 {
     let [name, more @ ..] = names else {
         return Ok(());
     };
     put_one_aside(system, stores, name)?;
     put_aside(system, stores, more)
+}
+
+/// The same, if a replacement is to begin again.
+fn put_aside_if<S: Voice + AllocGlobal, F: Stores>(
+    is_again: bool,
+    system: &S,
+    stores: &mut F,
+    names: &[String],
+) -> Result<(), Failure>
+    ensures { OnOk result (AreAsideIf is_again F.made F.saw (S.told system.now) names.now stores.old stores.new) }
+{
+    if is_again {
+        put_aside(system, stores, names)
+    } else {
+        Ok(())
+    }
+}
+
+/// Adds copies of names.
+#[tactic(auto, using(std::proofs::lemmas::List::append_assoc))]
+fn copy_all(alloc: Global, names: &[String], copies: &mut Vec<String>) -> Result<(), Failure>
+    ensures { OnOk result (map string_bytes copies.new.items
+        ≡ map string_bytes copies.old.items ++ map string_bytes names.now) }
+{
+    let [name, more @ ..] = names else {
+        return Ok(());
+    };
+    add(copies, String::from_str(alloc, name)?)?;
+    copy_all(alloc, more, copies)
+}
+
+/// No journal of a swap lies beside any of these files. They may have been announced while the files were opened.
+fn are_unannounced<F: Stores>(alloc: Global, stores: &F, names: &[String]) -> Result<(), Failure>
+    ensures { OnOk result (AreUnannounced F.saw stores.now names.now) }
+{
+    let [name, more @ ..] = names else {
+        return Ok(());
+    };
+    match found(alloc, stores, name)? {
+        Some(_) => Err(Failure::Unfinished),
+        None => are_unannounced(alloc, stores, more),
+    }
 }
 
 impl<S: Voice + AllocGlobal, F: Stores, R: Read, W: Write> Holder<F, DriverLink<R, W>>
@@ -441,14 +480,15 @@ impl<S: Voice + AllocGlobal, F: Stores, R: Read, W: Write> Holder<F, DriverLink<
     ghost use Rattle.std.specs.Prelude.{◌≡◌, IfOk};
     ghost use Rattle.dali_replacement.specs.Permit.{confirmed_random};
     ghost use Rattle.dali_commission_replaced.specs.Asking.{HasReplacedSo};
-    ghost use Rattle.dali_commission_replaced.specs.Replacing.{IsDue};
+    ghost use Rattle.dali_commission_replaced.specs.Replacing.{AreUnannounced, IsDue};
     ghost use Rattle.dali_commission_stores.specs.Settled.{IsExchanged};
 
-    ghost dues = { λ replacing all _ _ x y result. IfOk result (λ due. IsDue replacing.asking.now.wanted.now.short all
-        due
-        × HasReplacedSo F.Open.is_up F.Open.is_sound F.Open.holds F.Open.kept F.Open.block
+    ghost dues = { λ replacing all was _ x y result. IfOk result (λ due.
+        AreUnannounced F.saw was replacing.names.now
+        × IsDue replacing.asking.now.wanted.now.short replacing.names.now all due
+        × HasReplacedSo F.Open.is_up F.Open.is_sound F.Open.holds F.Open.kept F.Open.block F.made
         F.saw F.opens R.remaining W.contents (S.told replacing.asking.now.system.now) replacing.asking.now.wanted.now
-        replacing.names.now all (confirmed_random due.confirmed) x y) };
+        replacing.names.now all (confirmed_random due.confirmed) was x y) };
 
     ghost ends = { λ _ from to due out. IsExchanged F.made F.saw due.swap from to × (out ≡ due) };
 
@@ -463,12 +503,7 @@ impl<S: Voice + AllocGlobal, F: Stores, R: Read, W: Write> Holder<F, DriverLink<
         driver: &mut DriverLink<R, W>,
     ) -> Result<DueSwap, Failure> {
         let system = self.asking.system;
-        // They may have been announced while the files were opened.
-        for name in self.names {
-            if found(system.alloc(), stores, name)?.is_some() {
-                return Err(Failure::Unfinished);
-            }
-        }
+        are_unannounced(system.alloc(), stores, self.names)?;
         let gave = self.gives(stores, driver, all);
         self.report.note_lines(system, driver, gave)
     }
@@ -496,31 +531,70 @@ fn place_of<S: Voice + AllocGlobal, F: Stores>(
     Ok(place)
 }
 
+/// Adds where the files of these names lie.
+#[tactic(auto, using(std::proofs::lemmas::List::append_assoc))]
+fn add_places<S: Voice + AllocGlobal, F: Stores>(
+    system: &S,
+    stores: &F,
+    records: &[String],
+    places: &mut Vec<String>,
+) -> Result<(), Failure>
+    ensures { OnOk result (AreAtPlaces F.saw stores.now records.now places.old.items places.new.items) }
+{
+    let [name, more @ ..] = records else {
+        return Ok(());
+    };
+    add(places, place_of(system, stores, name)?)?;
+    add_places(system, stores, more, places)
+}
+
 /// Where the files of these names lie.
 fn places_of<S: Voice + AllocGlobal, F: Stores>(
     system: &S,
     stores: &F,
     records: &[String],
-) -> Result<Vec<String>, Failure> {
-    let mut names = Vec::new(system.alloc());
-    for name in records {
-        add(&mut names, place_of(system, stores, name)?)?;
+) -> Result<Vec<String>, Failure>
+    ensures { IfOk result (λ places. AreAtPlaces F.saw stores.now records.now [] places.items) }
+{
+    let mut places = Vec::new(system.alloc());
+    add_places(system, stores, records, &mut places)?;
+    Ok(places)
+}
+
+/// Whether a file is not another one, and neither lies where the other one's new file is to lie.
+fn is_apart(alloc: Global, name: &str, other: &str) -> Result<bool, Failure>
+    ensures { IfOk result (λ is. IsTrue is ↔ IsApart name.now other.now) }
+{
+    let (new, others_new) = (new_of(alloc, name)?, new_of(alloc, other)?);
+    Ok(name != other && name != others_new.as_str() && other != new.as_str())
+}
+
+/// Whether a file is so to each of some others.
+fn is_apart_from(alloc: Global, name: &str, others: &[String]) -> Result<bool, Failure>
+    ensures { IfOk result (λ is. IsTrue is ↔ IsApartFrom name.now others.now) }
+{
+    let [other, more @ ..] = others else {
+        return Ok(true);
+    };
+    if is_apart(alloc, name, other)? {
+        is_apart_from(alloc, name, more)
+    } else {
+        Ok(false)
     }
-    Ok(names)
 }
 
 /// Whether no file is another one, and none lies where another one's new file is to lie.
-fn are_apart(alloc: Global, names: &[String]) -> Result<bool, Failure> {
-    for (number, name) in names.iter().enumerate() {
-        let new = new_of(alloc, name)?;
-        for (at, other) in names.iter().enumerate() {
-            let is_same = at != number && other.as_str() == name.as_str();
-            if is_same || other.as_str() == new.as_str() {
-                return Ok(false);
-            }
-        }
+fn are_apart(alloc: Global, names: &[String]) -> Result<bool, Failure>
+    ensures { IfOk result (λ are. IsTrue are ↔ AreApart names.now) }
+{
+    let [name, more @ ..] = names else {
+        return Ok(true);
+    };
+    if is_apart_from(alloc, name, more)? {
+        are_apart(alloc, more)
+    } else {
+        Ok(false)
     }
-    Ok(true)
 }
 
 /// Notes the table of the first file, when a luminaire is replaced. If that cannot be read any more, none is noted.
@@ -554,9 +628,9 @@ where
     W: Write,
     ensures short { IfOk result (λ seen. confirmed_at seen ≡ wanted.now.short) }
     ensures replaced { IfOk result (λ seen. HasReplaced F.Open.is_up F.Open.is_sound F.Open.holds F.Open.kept
-        F.Open.block
-        F.saw F.opens R.remaining W.contents (S.told system.now) wanted.now (confirmed_random seen)
-        driver.old driver.new) }
+        F.Open.block F.made
+        F.saw F.opens R.remaining W.contents (S.told system.now) wanted.now records.now (confirmed_random seen)
+        stores.old stores.new driver.old driver.new) }
 {
     let asking = Asking {
         system,
@@ -570,9 +644,8 @@ where
     if let Some(swap) = exchanged(system, stores, &names, wanted.short)? {
         return confirms(&asking, stores, driver, &swap, report);
     }
-    for name in names.iter() {
-        let _ = read(system, stores, name)?;
-    }
+    let mut copies = Vec::new(system.alloc());
+    read_all(system, stores, &names, &mut copies)?;
     let replacing = Replacing {
         asking: &asking,
         names: &names,

@@ -1,5 +1,5 @@
-use Rattle.std.proofs.Common.{◌≡◌, ◌<◌, ◌-◌, ◌+◌, arith, ℕ, zero, suc, List, [], ◌∷◌, Option, Some, Result, Ok, Err, OnOk, refl, subst, sym, ap, ◌∙◌}
-use Rattle.dali_replacement.specs.{Swap.step_after, Swapping.number_of, declared.swap.Step.Step, declared.swap.Step.TheVariants.Announce}
+use Rattle.std.proofs.Common.{◌≡◌, ◌<◌, ◌-◌, ◌+◌, arith, ℕ, zero, suc, List, ◌∷◌, Option, Some, Result, Ok, Err, OnOk, refl, subst, sym, ap, ◌∙◌}
+use Rattle.dali_replacement.specs.{Swap.step_after, Swapping.number_of, Swapping.swap_text, declared.swap.Step.Step, declared.swap.Step.TheVariants.Announce}
 use Rattle.dali_replacement.specs.declared.{swap.Step.TheVariants.SetAside, swap.Step.TheVariants.Place, swap.Step.TheVariants.Forget, swapping.Swap.Swap}
 use Rattle.dali_commission_stores.specs.Calls.{Call, Wrote, Renamed, Likened, Removed}
 use Rattle.dali_commission_stores.specs.Settling.{new_at, journal_at, kept_at, IsNamed, IsDone, count_of, GoesOn, GoesBack}
@@ -10,17 +10,17 @@ then (Err e) P Q so h = tt
 
 -- a step is done by its calls
 pub announced : {F : Type 0} (made : F → F → Call → Type 0) (swap : Swap) (step : Step) (i : ℕ) (name text at : List ℕ) (x y : F)
-    → step ≡ Announce i → IsNamed swap i name → at ≡ journal_at name → made x y (Wrote at text) → IsDone made swap step x y
-announced made swap step i name text at x y is named lies call =
+    → step ≡ Announce i → IsNamed swap i name → at ≡ journal_at name → text ≡ swap_text swap → made x y (Wrote at text) → IsDone made swap step x y
+announced made swap step i name text at x y is named lies own call =
     subst (λ (s : Step). IsDone made swap s x y) (sym is)
-    (name, text, named, (y, subst (λ (a : List ℕ). made x y (Wrote a text)) lies call, refl))
+    (name, named, (y, subst (λ (a : List ℕ). made x y (Wrote a (swap_text swap))) lies (subst (λ (t : List ℕ). made x y (Wrote at t)) own call), refl))
 
 pub set_aside : {F : Type 0} (made : F → F → Call → Type 0) (swap : Swap) (step : Step) (i number : ℕ) (name to : List ℕ) (x y : F)
     → step ≡ SetAside i → IsNamed swap i name → number ≡ number_of swap → to ≡ kept_at name number → made x y (Renamed name to)
     → IsDone made swap step x y
 set_aside made swap step i number name to x y is named same lies call =
     subst (λ (s : Step). IsDone made swap s x y) (sym is)
-    (name, [], named, (y, subst (λ (a : List ℕ). made x y (Renamed name a)) (lies ∙ ap (λ (n : ℕ). kept_at name n) same) call, refl))
+    (name, named, (y, subst (λ (a : List ℕ). made x y (Renamed name a)) (lies ∙ ap (λ (n : ℕ). kept_at name n) same) call, refl))
 
 pub placed : {F : Type 0} (made : F → F → Call → Type 0) (swap : Swap) (step : Step) (i number : ℕ) (name new like from : List ℕ) (x z y : F)
     → step ≡ Place i → IsNamed swap i name → number ≡ number_of swap → new ≡ new_at name → like ≡ kept_at name number → from ≡ new_at name
@@ -30,13 +30,13 @@ placed made swap step i number name new like from x z y is named same lies kept 
     subst (λ (a : List ℕ). made x z (Likened (new_at name) a)) (kept ∙ ap (λ (n : ℕ). kept_at name n) same)
     (subst (λ (a : List ℕ). made x z (Likened a like)) lies first) in
     let renamed : made z y (Renamed (new_at name) name) = subst (λ (a : List ℕ). made z y (Renamed a name)) away second in
-    subst (λ (s : Step). IsDone made swap s x y) (sym is) (name, [], named, (z, likened, (y, renamed, refl)))
+    subst (λ (s : Step). IsDone made swap s x y) (sym is) (name, named, (z, likened, (y, renamed, refl)))
 
 pub forgotten : {F : Type 0} (made : F → F → Call → Type 0) (swap : Swap) (step : Step) (i : ℕ) (name at : List ℕ) (x y : F)
     → step ≡ Forget i → IsNamed swap i name → at ≡ journal_at name → made x y (Removed at) → IsDone made swap step x y
 forgotten made swap step i name at x y is named lies call =
     subst (λ (s : Step). IsDone made swap s x y) (sym is)
-    (name, [], named, (y, subst (λ (a : List ℕ). made x y (Removed a)) lies call, refl))
+    (name, named, (y, subst (λ (a : List ℕ). made x y (Removed a)) lies call, refl))
 
 -- a step more, onward and back
 pub one_more : {F E : Type 0} (made : F → F → Call → Type 0) (swap : Swap) (from to count : ℕ) (step : Step) (found : Option Step) (x z y : F)

@@ -1,8 +1,9 @@
 use Rattle.std.specs.Prelude.{◌≡◌, ◌⊎◌, ℕ, false, List, [], ◌∷◌, ◌++◌, codes, decimal, string_bytes}
 use Rattle.std.specs.declared.alloc.Global.{Global}
 use Rattle.std.specs.declared.string.String.{String}
-use Rattle.dali_commission_stores.specs.Calls.{Look, Call, Renamed}
+use Rattle.dali_commission_stores.specs.Calls.{Look, Call, Renamed, AreMade}
 use Rattle.dali_commission_stores.specs.Calls as look
+use Rattle.dali_commission_stores.specs.Lent.{lent_calls}
 use Rattle.dali_commission_stores.specs.Settling.{new_at, kept_at}
 use Rattle.std.specs.Borrow.{Bor}
 use Rattle.dali_commission_said.specs.declared.said.Said.{Said}
@@ -32,11 +33,24 @@ AreKeptTold told number (name ∷ more) =
     KeptTold told (string_bytes name) (kept_at (string_bytes name) number)
     × AreKeptTold told number more
 
--- A NEW FILE IS PUT ASIDE under a name that nothing has, or there is none
-abbrev pub IsAside : {F : Type 0} → (F → F → Call → Type 0) → (F → Look → Type 0) → List ℕ → F → F
-    → Type 0
-IsAside made saw name x y =
+-- A NEW FILE IS PUT ASIDE under a name that nothing has, once its records were opened and closed:
+-- then nothing of them lies in a log. That is said, by these bytes. Or there is none.
+abbrev pub aside_calls : List ℕ → List ℕ → List Call
+aside_calls new aside = lent_calls new ++ Renamed new aside ∷ []
+
+abbrev pub AsideTold : (Said → Type 0) → List ℕ → List ℕ → Type 0
+AsideTold told new aside =
+    (from : Bor (List ℕ))
+    × (to : Bor (List ℕ))
+    × (from.now ≡ new)
+    × (to.now ≡ aside)
+    × told (said.Aside from to)
+
+abbrev pub IsAside : {F : Type 0} → (F → F → Call → Type 0) → (F → Look → Type 0)
+    → (Said → Type 0) → List ℕ → F → F → Type 0
+IsAside made saw told name x y =
     (saw x (look.Has (new_at name) false) × (x ≡ y))
     ⊎ ((number : ℕ)
     × saw x (look.Has (aside_at name number) false)
-    × ((z : _) × made z y (Renamed (new_at name) (aside_at name number))))
+    × AreMade made (aside_calls (new_at name) (aside_at name number)) x y
+    × AsideTold told (new_at name) (aside_at name number))

@@ -7,7 +7,7 @@ use Rattle.dali_script.specs.declared.records.Record.{Record}
 use Rattle.dali_script.specs.Records.{Kept}
 use Rattle.dali_commissioning.specs.Runs.{IsRead}
 use Rattle.dali_commission_said.specs.declared.failure.Failure.{Failure}
-use Rattle.dali_commission_stores.specs.Calls.{Look, Has, Read}
+use Rattle.dali_commission_stores.specs.Calls.{Call, Opened, Closed, Look, Has, Read}
 use Rattle.dali_commission_stores.specs.declared.records.Seen.{Seen}
 use Rattle.dali_commission_stores.specs.Seen.{IsBeside, IsSeen}
 
@@ -44,15 +44,25 @@ IsCopied is_up is_sound holds block saw stores name copy =
     × ((journal : List ℕ) × IsBeside saw stores name journal × saw stores (Has journal false))
     × Copies is_up is_sound holds block saw stores name copy
 
+-- RECORDS ARE READ, those of each name, behind others
+abbrev pub AreRead : {F : Type 0} → (F → Look → Type 0) → F → List (String Global) → List Kept
+    → List Kept → Type 0
+AreRead saw stores [] before after = after ≡ before
+AreRead saw stores (name ∷ more) before after =
+    (k : Kept)
+    × saw stores (Read (string_bytes name) k)
+    × AreRead saw stores more (before ++ k ∷ []) after
+
 -- RECORDS OF SEVERAL NAMES ARE HELD, and something is lent beside them: they cannot be had, and all
--- is as it was; or the holder does with them what it does, and then, if that ended well, what was
--- due.
-abbrev pub IsHeld : {F D H Due Out : Type 0}
+-- is as it was; or the holder does with those of all names what it does, and then, if that ended
+-- well, what was due.
+abbrev pub IsHeld : {F D H Due Out : Type 0} → (F → Look → Type 0) → List (String Global)
     → (List Kept → F → F → D → D → Result Due Failure → Type 0)
     → (H → F → F → Due → Out → Type 0) → F → F → D → D → Result Out Failure → Type 0
-IsHeld {F = F} {H = H} {Due = Due} dues ends was now x y result =
+IsHeld {F = F} {H = H} {Due = Due} saw names dues ends was now x y result =
     (IsErr result × (now ≡ was) × (y ≡ x))
     ⊎ ((all : List Kept)
+    × AreRead saw was names [] all
     × (at : F)
     × (done : Result Due Failure)
     × dues all was at x y done
@@ -65,11 +75,6 @@ IsOpened block_of saw opens stores name block lent =
     ((seen : Seen) × IsSeen saw stores name block seen × opens stores seen lent)
     × (block_of lent ≡ block)
 
--- RECORDS ARE READ, those of each name, behind others
-abbrev pub AreRead : {F : Type 0} → (F → Look → Type 0) → F → List (String Global) → List Kept
-    → List Kept → Type 0
-AreRead saw stores [] before after = after ≡ before
-AreRead saw stores (name ∷ more) before after =
-    (k : Kept)
-    × saw stores (Read (string_bytes name) k)
-    × AreRead saw stores more (before ++ k ∷ []) after
+-- and that changes nothing else than that they are opened, and closed
+abbrev pub lent_calls : List ℕ → List Call
+lent_calls name = Opened name ∷ Closed name ∷ []

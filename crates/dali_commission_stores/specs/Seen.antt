@@ -1,5 +1,5 @@
-use Rattle.std.specs.Prelude.{◌≡◌, ◌⊎◌, ℕ, Bool, true, false, List, [], ◌∷◌, ◌++◌, Option, Some}
-use Rattle.std.specs.Prelude.{None, length, string_bytes}
+use Rattle.std.specs.Prelude.{◌≡◌, ◌≤◌, ◌⊎◌, ℕ, ◌*◌, Bool, true, false, List, [], ◌∷◌, ◌++◌}
+use Rattle.std.specs.Prelude.{Option, Some, None, length, string_bytes}
 use Rattle.std.specs.declared.alloc.Global.{Global}
 use Rattle.std.specs.declared.string.String.{String}
 use Rattle.dali_script.specs.declared.block.Block.{Block}
@@ -54,11 +54,12 @@ AreLying saw x number (name ∷ more) before after =
     × LiesSo saw x (string_bytes name) number lies
     × AreLying saw x number more (before ++ lies ∷ []) after
 
--- THE MOMENT of a swap, by what lies at the places of its files
+-- THE MOMENT of a swap, from the first to the last one, by what lies at the places of its files
 abbrev pub IsMoment : {F : Type 0} → (F → Look → Type 0) → Swap → F → ℕ → Type 0
 IsMoment saw swap x moment =
     (all : List Lies)
     × AreLying saw x (number_of swap) (names_of swap) [] all
+    × (moment ≤ 4 * length all)
     × AreAt (length all) moment 0 all
 
 -- the journal of a swap beside the records of a name: its text was read, and it names that file; or

@@ -1,8 +1,9 @@
-use Rattle.std.specs.Prelude.{◌≤◌, ◌<◌, ℕ, ◌*◌, Bool, true, false, List}
+use Rattle.std.specs.Prelude.{◌≤◌, ◌<◌, ℕ, ◌*◌, Bool, true, false, List, Option, IfSome}
 use Rattle.dali_replacement.specs.declared.swap.Step.{Step}
 use Rattle.dali_replacement.specs.declared.swapping.Swap.{Swap}
-use Rattle.dali_commission_stores.specs.Calls.{Call, Look}
-use Rattle.dali_commission_stores.specs.Seen.{IsMoment}
+use Rattle.dali_replacement.specs.Swapping.{names_of}
+use Rattle.dali_commission_stores.specs.Calls.{Call, Look, Alone}
+use Rattle.dali_commission_stores.specs.Seen.{IsMoment, IsFirstJournal}
 use Rattle.dali_commission_stores.specs.Settling.{count_of, GoesOn, GoesBack}
 
 -- ITS END: by the moment at which it is, it goes on to the last moment if each journal
@@ -20,10 +21,18 @@ IsSettled made saw swap x y false =
     × (moment < count_of swap)
     × GoesBack made swap moment x y
 
+-- ALL OTHERS ARE KEPT from acting by the first journal of a swap that lies there, if one does
+abbrev pub IsAlone : {F : Type 0} → (F → Look → Type 0) → Swap → F → Type 0
+IsAlone saw swap x =
+    (at : Option (List ℕ))
+    × IsFirstJournal saw x (names_of swap) at
+    × IfSome at (λ journal. saw x (Alone journal))
+
 -- AN EXCHANGE: first each journal is written, and then it goes on to its end
 abbrev pub IsExchanged : {F : Type 0} → (F → F → Call → Type 0) → (F → Look → Type 0) → Swap → F → F
     → Type 0
 IsExchanged made saw swap x y =
     (z : _)
     × ((steps : List Step) × GoesOn made swap 0 (count_of swap) steps x z)
+    × IsAlone saw swap z
     × IsSettled made saw swap z y true

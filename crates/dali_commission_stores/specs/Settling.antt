@@ -5,7 +5,7 @@ use Rattle.dali_replacement.specs.declared.swap.Step.{Step}
 use Rattle.dali_replacement.specs.declared.swap.Step.TheVariants.{Announce, SetAside, Place, Forget}
 use Rattle.dali_replacement.specs.declared.swapping.Swap.{Swap}
 use Rattle.dali_replacement.specs.Swap.{file_of, step_after}
-use Rattle.dali_replacement.specs.Swapping.{names_of, number_of}
+use Rattle.dali_replacement.specs.Swapping.{names_of, number_of, swap_text}
 use Rattle.dali_commission_stores.specs.Calls.{Call, Wrote, Renamed, Likened, Removed, AreMade}
 
 -- THE CALLS OF A STEP of a swap, with the names of what lies beside its file: first the journal is
@@ -33,9 +33,8 @@ IsNamed swap i name = option_map (λ it. string_bytes it) (slice_get (names_of s
 abbrev pub IsDone : {F : Type 0} → (F → F → Call → Type 0) → Swap → Step → F → F → Type 0
 IsDone made swap step x y =
     (name : List ℕ)
-    × (text : List ℕ)
     × IsNamed swap (file_of step) name
-    × AreMade made (calls_of step name (number_of swap) text) x y
+    × AreMade made (calls_of step name (number_of swap) (swap_text swap)) x y
 
 -- THE STEPS FROM A MOMENT ON up to another one, or to the end of the swap
 abbrev pub count_of : Swap → ℕ

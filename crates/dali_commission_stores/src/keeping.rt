@@ -33,7 +33,7 @@ pub fn put_one_aside<S: Voice + AllocGlobal, F: Stores>(
     stores: &mut F,
     name: &str,
 ) -> Result<(), Failure>
-    ensures { OnOk result (IsAside F.made F.saw name.now stores.old stores.new) }
+    ensures { OnOk result (IsAside F.made F.saw (S.told system.now) name.now stores.old stores.new) }
 {
     let alloc = system.alloc();
     let new = new_of(alloc, name)?;

@@ -2,8 +2,8 @@
 
 ghost use Rattle.std.specs.Prelude.{◌≡◌, Ok, IfOk, OnOk, string_bytes};
 ghost use Rattle.dali_commissioning.specs.Runs.{IsRead};
-ghost use Rattle.dali_commission_stores.specs.Calls.{Read};
-ghost use Rattle.dali_commission_stores.specs.Lent.{IsLent, IsOpened, IsCopied, AreRead};
+ghost use Rattle.dali_commission_stores.specs.Calls.{Read, AreMade};
+ghost use Rattle.dali_commission_stores.specs.Lent.{IsLent, IsOpened, IsCopied, AreRead, lent_calls};
 ghost use Rattle.dali_commission_said.specs.Failures.{answered};
 ghost use Rattle.dali_commission_stores.specs.Seen.{IsBeside, IsSeen};
 
@@ -86,7 +86,8 @@ fn ended<T: Drop, F: Stores>(
     done: Result<T, Failure>,
     closed: Result<(), Failure>,
 ) -> Result<T, Failure>
-    ensures { IfOk result (λ out. done ≡ Ok out) }
+    ensures done { IfOk result (λ out. done ≡ Ok out) }
+    ensures closed { OnOk result (closed ≡ Ok tt) }
 {
     match (done, closed) {
         (Ok(out), Ok(())) => Ok(out),
@@ -102,8 +103,9 @@ fn lend_seen<F: Stores, D, B: Borrower<F::Open, D>>(
     borrower: B,
     beside: &mut D,
 ) -> Result<B::Out, Failure>
-    ensures { IsLent (λ lent. F.opens stores.old seen.now lent × (F.Open.block lent ≡ seen.now.block))
+    ensures lent { IsLent (λ lent. F.opens stores.old seen.now lent × (F.Open.block lent ≡ seen.now.block))
         (B.came borrower) beside.old beside.new result }
+    ensures made { OnOk result (AreMade F.made (lent_calls seen.now.name.now) stores.old stores.new) }
 {
     let mut open = stores.open(seen)?;
     let done = borrower.take(&mut open, beside);
@@ -121,8 +123,9 @@ pub fn lend<F: Stores, D, B: Borrower<F::Open, D>>(
     borrower: B,
     beside: &mut D,
 ) -> Result<B::Out, Failure>
-    ensures { IsLent (IsOpened F.Open.block F.saw F.opens stores.old name.now block) (B.came borrower)
+    ensures lent { IsLent (IsOpened F.Open.block F.saw F.opens stores.old name.now block) (B.came borrower)
         beside.old beside.new result }
+    ensures made { OnOk result (AreMade F.made (lent_calls name.now) stores.old stores.new) }
 {
     let seen = Seen::look(alloc, stores, name, block)?;
     lend_seen(stores, &seen, borrower, beside)

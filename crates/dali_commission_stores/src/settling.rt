@@ -5,7 +5,7 @@ ghost use Rattle.dali_replacement.specs.Swapping.{number_of};
 ghost use Rattle.dali_commission_stores.specs.Seen.{LiesSo, AreLying, IsMoment, IsFirstJournal, IsFound};
 ghost use Rattle.dali_replacement.specs.declared.swap.Step.{Step};
 ghost use Rattle.dali_commission_said.specs.Failures.{or_unfinished};
-ghost use Rattle.dali_commission_stores.specs.Settled.{IsSettled, IsExchanged};
+ghost use Rattle.dali_commission_stores.specs.Settled.{IsSettled, IsAlone, IsExchanged};
 ghost use Rattle.dali_commission_stores.specs.Settling.{IsNamed, IsDone, GoesOn, GoesBack};
 
 use crate::stores::{Actor, Stores};
@@ -209,7 +209,8 @@ pub fn settle<S: Voice + AllocGlobal, F: Stores>(
     stores: &mut F,
     swap: &Swap,
 ) -> Result<bool, Failure>
-    ensures { IfOk result (IsSettled F.made F.saw swap.now stores.old stores.new) }
+    ensures settled { IfOk result (IsSettled F.made F.saw swap.now stores.old stores.new) }
+    ensures alone { OnOk result (IsAlone F.saw swap.now stores.old) }
 {
     let settling = Settling { system, swap };
     match first_journal(system.alloc(), stores, swap.names())? {

@@ -77,8 +77,8 @@ pub trait Actor<F>: Drop {
 /// there, which other programs may change.
 pub trait Stores: Sized {
     ghost use Rattle.dali_script.specs.Records.{Kept};
-    ghost use Rattle.dali_commission_stores.specs.Calls.{Call, Wrote, Renamed, Likened, Removed};
-    ghost use Rattle.dali_commission_stores.specs.Calls.{Look, Has, Text, Lies};
+    ghost use Rattle.dali_commission_stores.specs.Calls.{Call, Wrote, Renamed, Likened, Removed, Opened, Closed};
+    ghost use Rattle.dali_commission_stores.specs.Calls.{Look, Has, Text, Lies, Alone};
     ghost use Rattle.std.specs.Prelude.{false};
     ghost use Rattle.dali_commission_stores.specs.Lent.{Copies, IsHeld};
     ghost use Rattle.dali_commission_stores.specs.declared.records.Seen.{Seen};
@@ -106,10 +106,13 @@ pub trait Stores: Sized {
     /// Opens the records that were seen. They are made if there are none. `Unfinished` if the journal lies there once
     /// they are open.
     fn open(&mut self, seen: &Seen<'_>) -> Result<Self::Open, Failure>
-        ensures { IfOk result (λ lent. opens self.old seen.now lent × (Self.Open.block lent ≡ seen.now.block)) };
+        ensures opens { IfOk result (λ lent. opens self.old seen.now lent) }
+        ensures block { IfOk result (λ lent. Self.Open.block lent ≡ seen.now.block) }
+        ensures made { OnOk result (made self.old self.new (Opened seen.now.name.now)) };
 
     /// Closes records that were opened.
-    fn close(&mut self, seen: &Seen<'_>, open: Self::Open) -> Result<(), Failure>;
+    fn close(&mut self, seen: &Seen<'_>, open: Self::Open) -> Result<(), Failure>
+        ensures { OnOk result (made self.old self.new (Closed seen.now.name.now)) };
 
     /// Why a call of records that are open has failed, if the system tells more of it.
     fn why(&self, seen: &Seen<'_>, failure: Failure) -> Failure;
@@ -134,11 +137,12 @@ pub trait Stores: Sized {
         holder: H,
         beside: &mut D,
     ) -> Result<H::Out, Failure>
-        ensures { IsHeld (H.dues holder) H.ends self.old self.new beside.old beside.new result };
+        ensures { IsHeld saw names.now (H.dues holder) H.ends self.old self.new beside.old beside.new result };
 
     /// Keeps all others from acting by what has this name, until the actor is done.
     fn alone<A: Actor<Self>>(&mut self, name: &str, actor: A) -> Result<A::Out, Failure>
-        ensures { IfOk result (A.acts actor self.old self.new) };
+        ensures acts { IfOk result (A.acts actor self.old self.new) }
+        ensures alone { OnOk result (saw self.old (Alone name.now)) };
 
     /// The text of this name. None if there is none.
     fn text(&self, alloc: Global, name: &str) -> Result<Option<String>, Failure>

@@ -9,6 +9,10 @@ pub mod Ran
 pub mod Spelled
 mod Blocks
 pub mod Giving
-mod Acts
-mod Outstanding
-mod Rules
+pub mod Acts
+pub mod Outstanding
+pub mod Rules
+pub mod Done
+pub mod Questions
+pub mod Puttings
+pub mod Ruled

@@ -8,7 +8,7 @@ use Rattle.dali_commissioning.proofs.Acts.{keeps_to_scripts, by_more}
 
 -- WHAT IS OUTSTANDING MAY BE DONE: the last order of a machine that is left before its end.
 
-own_joined : (v : Own) (now more : List Act) → own_all v (now ++ more) ≡ own_all (own_all v now) more
+pub own_joined : (v : Own) (now more : List Act) → own_all v (now ++ more) ≡ own_all (own_all v now) more
 own_joined v [] more = refl
 own_joined v (a ∷ now) more = own_joined (own_after v a) now more
 

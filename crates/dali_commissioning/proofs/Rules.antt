@@ -18,7 +18,7 @@ use Rattle.dali_commissioning.specs.declared.{conducting.PassEnd.PassEnd, fault.
 use Rattle.dali_commissioning.specs.declared.fault.CommissionFault.TheVariants.{RunsSpent}
 use Rattle.dali_commissioning.specs.Conducted.{Commits, Stays, IsAt}
 use Rattle.dali_commissioning.specs.{Drivers.Talk, Runs.Run, Runs.AreRuns, Steps.committed_by}
-use Rattle.dali_commissioning.proofs.Outstanding.{outstanding_own}
+use Rattle.dali_commissioning.proofs.{Done.steps_done, Outstanding.outstanding_own}
 use Rattle.dali_commissioning.proofs.{Acts.keeps_to_scripts, Acts.records_are_kept, Acts.records_both, Ran.HasRun, Ran.OneRun, Steps.stays_further}
 
 -- WHAT IS CONDUCTED KEEPS THE RULES, by the records of its store.
@@ -58,9 +58,12 @@ pub rules_left : {S : Type 0} (is_up is_sound : S → Type 0) (holds : S → Lis
     (committed : Bool) (count : ℕ)
     → m.last ≡ None → m.trace ≡ [] → IsAt is_up is_sound holds was mid m n x y first waiting order committed count
     → Stays is_up is_sound mid keep → MayCommitLast is_up is_sound holds mid keep [] (record_ordered (Some order))
-    → HasWritten reason y z (order_line waiting (Some order)) → LeavesRules is_up is_sound holds reason was keep m.kept x z
+    → HasWritten reason y z (order_line waiting (Some order)) → LeavesRules is_up is_sound holds first reason was keep m x z
 rules_left is_up is_sound holds reason was mid keep m n x y z first waiting order committed count unstarted idle so_far stays last written = record {
   steps = so_far.steps;
+  machine = n;
+  taken = so_far.conducted.taken;
+  started = so_far.begun;
   at = y;
   wrote = so_far.conducted.wrote;
   bytes = so_far.conducted.bytes;
@@ -76,13 +79,14 @@ rules_left is_up is_sound holds reason was mid keep m n x y z first waiting orde
         subst (λ ys. holds keep (xs ++ (ys ++ more))) (sym (records_are_kept so_far.steps))
             (subst (holds keep) (append_assoc xs (committed_by so_far.steps) more) has),
       );
+  done = steps_done m n so_far.steps x y unstarted so_far.conducted;
   own = outstanding_own m n so_far.steps unstarted idle so_far.conducted.taken;
 }
 
 pub rules_spent : {S : Type 0} (is_up is_sound : S → Type 0) (holds : S → List Record → Type 0)
     (was keep : S) (m n : Machine) (x y : Talk) (first : Input) (waiting : Option Forward) (order : Order) (committed : Bool) (count : ℕ)
     → m.last ≡ None → m.trace ≡ [] → IsAt is_up is_sound holds was keep m n x y first waiting order committed count
-    → LeavesRules is_up is_sound holds StepsSpent was keep m.kept x y
+    → LeavesRules is_up is_sound holds first StepsSpent was keep m x y
 rules_spent is_up is_sound holds was keep m n x y first waiting order committed count unstarted idle at =
     rules_left is_up is_sound holds StepsSpent was keep keep m n x y y first waiting order committed count unstarted idle at
     (record { up = λ up. up; sound = λ sound up. sound }) (same_last is_up is_sound holds keep (record_ordered (Some order))) (Appends-nil y.written)
@@ -90,7 +94,7 @@ rules_spent is_up is_sound holds was keep m n x y first waiting order committed 
 -- ---------------------------------------------------------------- one sender after the other
 
 -- what it keeps is the replay of its records
-kept_all : (v : Own) (acts : List Act) → (own_all v acts).kept ≡ replay_of v.kept (records_of acts)
+pub kept_all : (v : Own) (acts : List Act) → (own_all v acts).kept ≡ replay_of v.kept (records_of acts)
 kept_all v [] = refl
 kept_all v (Puts f h ∷ acts) = kept_all (own_after v (Puts f h)) acts
 kept_all v (Loses f ∷ acts) = kept_all (own_after v (Loses f)) acts
@@ -136,13 +140,13 @@ own_told k trace few many (Keeps (record_of.Release a r) ∷ acts) all own = (
 )
 
 -- a sender that begins anew, with the records that it has then
-own_anew : (v : Own) (acts : List Act) → AreOwn (sender_of v.kept) acts → AreOwn v (Begins ∷ acts)
+pub own_anew : (v : Own) (acts : List Act) → AreOwn (sender_of v.kept) acts → AreOwn v (Begins ∷ acts)
 own_anew v acts own = (tt, own_told v.kept [] [] v.told acts (λ x has. absurd has) own)
 
 -- ---------------------------------------------------------------- run after run
 
 module _ {S : Type 0} (is_up is_sound : S → Type 0) (holds : S → List Record → Type 0) (block : Block) (first : Input) where
-  runs_stay : (was keep : S) (x y : Talk) (runs : List Run) → AreRuns is_up is_sound holds block first was keep x y runs
+  pub runs_stay : (was keep : S) (x y : Talk) (runs : List Run) → AreRuns is_up is_sound holds block first was keep x y runs
       → Stays is_up is_sound was keep
   runs_stay was keep x y [] are = subst (λ s. Stays is_up is_sound was s) (sym are.0) (record { up = λ up. up; sound = λ sound up. sound })
   runs_stay was keep x y (run ∷ before) (mid, at, are, is) =
@@ -158,7 +162,7 @@ module _ {S : Type 0} (is_up is_sound : S → Type 0) (holds : S → List Record
       own_both (sender_of k) earlier (Begins ∷ acts) so_far
       (own_anew (own_all (sender_of k) earlier) acts (subst (λ i. AreOwn (sender_of i) acts) same own))
 
-  runs_own : (was keep : S) (x y : Talk) (runs : List Run) → AreRuns is_up is_sound holds block first was keep x y runs
+  pub runs_own : (was keep : S) (x y : Talk) (runs : List Run) → AreRuns is_up is_sound holds block first was keep x y runs
       → is_sound was → is_up keep → (xs : List Record) → holds was xs → (k : Kept) → IsReplay block xs k
       → AreOwn (sender_of k) (acts_of_runs runs) × holds keep (xs ++ records_of (acts_of_runs runs))
   runs_own was keep x y [] are sound up xs held k replay =
@@ -185,7 +189,7 @@ module _ {S : Type 0} (is_up is_sound : S → Type 0) (holds : S → List Record
   runs_read was keep x y run (earlier ∷ before) (mid, at, are, is) sound up xs held =
       runs_read was mid x at earlier before are sound (is.stays.up up) xs held
 
-  runs_commit : (was keep : S) (x y : Talk) (runs : List Run) → AreRuns is_up is_sound holds block first was keep x y runs
+  pub runs_commit : (was keep : S) (x y : Talk) (runs : List Run) → AreRuns is_up is_sound holds block first was keep x y runs
       → Commits is_up is_sound holds was keep (records_of (acts_of_runs runs))
   runs_commit was keep x y [] are = λ sound up xs held. subst (λ s. holds s (xs ++ [])) (sym are.0) (subst (holds was) (sym (append-nil xs)) held)
   runs_commit was keep x y (run ∷ before) are = λ sound up xs held.
@@ -216,7 +220,7 @@ module _ {S : Type 0} (is_up is_sound : S → Type 0) (holds : S → List Record
 
   left_own : (reason : CommissionFault) (was mid keep : S) (x at y : Talk) (runs : List Run) (acts : List Act)
       → AreRuns is_up is_sound holds block first was mid x at runs → Stays is_up is_sound mid keep
-      → IsLeftRun is_up is_sound holds block reason mid keep at y acts
+      → IsLeftRun is_up is_sound holds block first reason mid keep at y acts
       → is_sound was → is_up keep → (xs : List Record) → holds was xs → (k : Kept) → IsReplay block xs k
       → AreOwn (sender_of k) (acts_of_runs runs ++ acts)
   left_own reason was mid keep x at y runs acts are stays (inl none) sound up xs held k replay =
@@ -231,7 +235,7 @@ module _ {S : Type 0} (is_up is_sound : S → Type 0) (holds : S → List Record
 
   runs_leave_rules : (reason : CommissionFault) (was mid keep : S) (x at y : Talk) (quiet count : ℕ)
       → HasRun is_up is_sound holds block first was mid x at quiet count → Stays is_up is_sound mid keep
-      → (acts : List Act) × IsLeftRun is_up is_sound holds block reason mid keep at y acts
+      → (acts : List Act) × IsLeftRun is_up is_sound holds block first reason mid keep at y acts
       → RunsLeaveRules is_up is_sound holds block first reason was keep x y
   runs_leave_rules reason was mid keep x at y quiet count so_far stays (acts, last) = record {
     runs = so_far.runs;
@@ -240,16 +244,17 @@ module _ {S : Type 0} (is_up is_sound : S → Type 0) (holds : S → List Record
     at = at;
     are = so_far.are;
     last = last;
+    stays = stays;
     own = left_own reason was mid keep x at y so_far.runs acts so_far.are stays last;
   }
 
   pub runs_left : (other : Block) (reason : CommissionFault) (was mid keep : S) (x at y : Talk) (quiet count : ℕ)
       → HasRun is_up is_sound holds block first was mid x at quiet count → Stays is_up is_sound mid keep → other ≡ block
-      → (acts : List Act) × IsLeftRun is_up is_sound holds other reason mid keep at y acts
+      → (acts : List Act) × IsLeftRun is_up is_sound holds other first reason mid keep at y acts
       → RunsLeaveRules is_up is_sound holds block first reason was keep x y
   runs_left other reason was mid keep x at y quiet count so_far stays same last =
       runs_leave_rules reason was mid keep x at y quiet count so_far stays
-      (subst (λ b. (acts : List Act) × IsLeftRun is_up is_sound holds b reason mid keep at y acts) same last)
+      (subst (λ b. (acts : List Act) × IsLeftRun is_up is_sound holds b first reason mid keep at y acts) same last)
 
   pub runs_spent_rules : (was keep : S) (x y : Talk) (quiet count : ℕ)
       → HasRun is_up is_sound holds block first was keep x y quiet count
@@ -259,39 +264,43 @@ module _ {S : Type 0} (is_up is_sound : S → Type 0) (holds : S → List Record
       ([], inl (refl, λ sound up xs held. subst (holds keep) (sym (append-nil xs)) held, refl))
 
 -- a run whose store could not be read
-pub unread_run : {S : Type 0} (is_up is_sound : S → Type 0) (holds : S → List Record → Type 0) (block : Block) (reason : CommissionFault)
-    (was keep : S) (x : Talk) → (is_sound was → is_up keep → (xs : List Record) → holds was xs → holds keep xs)
-    → (acts : List Act) × IsLeftRun is_up is_sound holds block reason was keep x x acts
-unread_run is_up is_sound holds block reason was keep x same =
+pub unread_run : {S : Type 0} (is_up is_sound : S → Type 0) (holds : S → List Record → Type 0) (block : Block) (first : Input)
+    (reason : CommissionFault) (was keep : S) (x : Talk) → (is_sound was → is_up keep → (xs : List Record) → holds was xs → holds keep xs)
+    → (acts : List Act) × IsLeftRun is_up is_sound holds block first reason was keep x x acts
+unread_run is_up is_sound holds block first reason was keep x same =
     ([], inl (refl, λ sound up xs held. subst (holds keep) (sym (append-nil xs)) (same sound up xs held), refl))
 
 -- a run that was left after its store was read
 pub left_run : {S : Type 0} (is_up is_sound : S → Type 0) (holds : S → List Record → Type 0) (kept_of : S → Kept)
     (must_read : S → Bool) (block_of : S → Block)
     → ((s : S) (xs : List Record) → is_sound s → must_read s ≡ false → holds s xs → IsReplay (block_of s) xs (kept_of s))
-    → (reason : CommissionFault) (was mid keep : S) (m : Machine) (x y : Talk) (k : Kept)
+    → (first : Input) (reason : CommissionFault) (was mid keep : S) (m : Machine) (x y : Talk) (k : Kept)
     → k ≡ kept_of mid → must_read mid ≡ false → block_of mid ≡ block_of was → Stays is_up is_sound was mid → Stays is_up is_sound mid keep
     → (is_sound was → is_up mid → (xs : List Record) → holds was xs → holds mid xs)
-    → m ≡ at_first 0 k → (m.trace ≡ [] → LeavesRules is_up is_sound holds reason mid keep m.kept x y)
-    → (acts : List Act) × IsLeftRun is_up is_sound holds (block_of was) reason was keep x y acts
-left_run is_up is_sound holds kept_of must_read block_of replay reason was mid keep m x y k answer is_read block stays later same begins leaves =
-    let left = leaves (ap (λ n. n.trace) begins) in
-    let whole : LeavesRules is_up is_sound holds reason was keep m.kept x y = record {
+    → m ≡ at_first 0 k → (m.trace ≡ [] → LeavesRules is_up is_sound holds first reason mid keep m x y)
+    → (acts : List Act) × IsLeftRun is_up is_sound holds (block_of was) first reason was keep x y acts
+left_run is_up is_sound holds kept_of must_read block_of replay first reason was mid keep m x y k answer is_read block stays later same begins leaves =
+    let left = subst (λ n. LeavesRules is_up is_sound holds first reason mid keep n x y) begins (leaves (ap (λ n. n.trace) begins)) in
+    let whole : LeavesRules is_up is_sound holds first reason was keep (at_first 0 k) x y = record {
       steps = left.steps;
+      machine = left.machine;
+      taken = left.taken;
+      started = left.started;
       at = left.at;
       wrote = left.wrote;
       bytes = left.bytes;
       read = left.read;
       told = left.told;
+      done = left.done;
       begun = left.begun;
       commits = λ sound up xs held. left.commits (stays.sound sound (later.up up)) up xs (same sound (later.up up) xs held);
       own = left.own;
     } in (
       Begins ∷ (acts_by left.steps ++ outstanding (last_order left.steps)),
       inr (
-        m.kept,
+        k,
         λ sound up xs held.
-            subst (λ b. IsReplay b xs m.kept) block (subst (IsReplay (block_of mid) xs) (sym answer ∙ sym (ap (λ n. n.kept) begins))
+            subst (λ b. IsReplay b xs k) block (subst (IsReplay (block_of mid) xs) (sym answer)
             (replay mid xs (stays.sound sound (later.up up)) is_read (same sound (later.up up) xs held))),
         whole,
         refl,

@@ -8,4 +8,6 @@ pub mod Places
 pub mod Runs
 pub mod Looking
 pub mod Giving
+pub mod Done
 pub mod Acts
+pub mod Rules

@@ -2,9 +2,12 @@
 
 ghost use Rattle.std.specs.Prelude.{◌≡◌, ◌≢◌, ◌<◌, Err, IfOk, IfErr};
 ghost use Rattle.dali_script.specs.Records.{Kept};
-ghost use Rattle.dali_commissioning.specs.Drivers.{talk_of};
+ghost use Rattle.dali_reserve.specs.declared.error.KeepError.{KeepError};
+ghost use Rattle.dali_commissioning.specs.Drivers.{talk_of, IsCutBeside};
+ghost use Rattle.dali_commissioning.specs.Acts.{HasNotBegun};
 ghost use Rattle.dali_commissioning.specs.Census.{IsLost};
 ghost use Rattle.dali_commissioning.specs.Conducted.{Stays};
+ghost use Rattle.dali_commissioning.specs.Rules.{LeavesBegun};
 ghost use Rattle.dali_commissioning.specs.Runs.{IsRead, IsBegun, IsChecked, IsCheckLost, Grows, outside};
 
 use crate::census::{Reply, is_addressed, take_census};
@@ -38,6 +41,7 @@ fn records<K: Keep>(keep: &mut K) -> Result<Kept, CommissionFault>
     ensures stays { Stays K.is_up K.is_sound keep.old keep.new }
     ensures block { K.block keep.new ≡ K.block keep.old }
     ensures none_lost { result ≢ Err CommissionFault.QuestionLost }
+    ensures failed { IfErr result (λ reason. (e : KeepError) × (reason ≡ CommissionFault.Store e)) }
 {
     match keep.read() {
         Ok(kept) => Ok(kept),
@@ -66,7 +70,12 @@ pub fn begin<K: Keep, R: Read, W: Write, P: Watch>(
         × IsRead K.is_up K.is_sound K.holds (K.block keep.old) keep.old keep.new k × IsLost k others.now
         (talk_of R.remaining W.contents driver.old) (talk_of R.remaining W.contents driver.new) }
     ensures left { IfErr result (λ _. Grows K.is_up K.is_sound K.holds keep.old keep.new) }
+    ensures left_rules { IfErr result (λ reason. LeavesBegun K.is_up K.is_sound K.holds (K.block keep.old) others.now
+        reason keep.old keep.new (talk_of R.remaining W.contents driver.old)
+        (talk_of R.remaining W.contents driver.new)) }
     ensures block { K.block keep.new ≡ K.block keep.old }
+    ensures failed { IfErr result (λ reason. HasNotBegun K.is_up K.is_sound K.holds (K.block keep.old) others.now reason
+        keep.old keep.new (talk_of R.remaining W.contents driver.old) (talk_of R.remaining W.contents driver.new)) }
 {
     let kept = records(keep)?;
     let replies = take_census(driver, &kept, others)?;
@@ -98,6 +107,8 @@ pub fn check<K: Keep, R: Read, W: Write>(
     ensures lost { result ≡ Err CommissionFault.QuestionLost → IsCheckLost (K.block keep.old) others.now
         (talk_of R.remaining W.contents driver.old) (talk_of R.remaining W.contents driver.new) }
     ensures left { IfErr result (λ _. Grows K.is_up K.is_sound K.holds keep.old keep.new) }
+    ensures failed { IfErr result (λ reason. IsCutBeside reason (talk_of R.remaining W.contents driver.old)
+        (talk_of R.remaining W.contents driver.new)) }
 {
     let kept = records(keep)?;
     let replies = take_census(driver, &Kept::new(kept.block()), others)?;

@@ -1,12 +1,12 @@
 //! The census of the short addresses: which gear answer to addresses that no record names, before any is given.
 
-ghost use Rattle.std.specs.Prelude.{◌≡◌, ◌<◌, ◌≤◌, ◌==◌, false, length, List, Err, IfOk};
+ghost use Rattle.std.specs.Prelude.{◌≡◌, ◌<◌, ◌≤◌, ◌==◌, false, true, length, List, Some, None, Ok, Err, IfOk, IfErr};
 ghost use Rattle.std.specs.List.{list_any};
 ghost use Rattle.dali_script.specs.declared.orders.Input.{Input};
 ghost use Rattle.dali_special.specs.declared.command.Command.TheVariants.{RandomByte};
 ghost use Rattle.dali_special.specs.Command.{frame_of};
 ghost use Rattle.dali_script.specs.declared.sending.Half.TheVariants as half;
-ghost use Rattle.dali_commissioning.specs.Drivers.{talk_of};
+ghost use Rattle.dali_commissioning.specs.Drivers.{talk_of, fault_of, is_lost, IsCut};
 ghost use Rattle.dali_commissioning.specs.Census.{IsPut, answer_told, IsAsked, reply_of, answers_told};
 ghost use Rattle.dali_commissioning.specs.Census.{is_byte, is_silence, without_number, joined, lost_after};
 ghost use Rattle.dali_commissioning.specs.Census.{IsHeard, IsAnswered, IsGivenUpOf, IsGivenUp, is_unclear};
@@ -146,9 +146,11 @@ fn byte<R: Read, W: Write>(
     short: Short,
     part: Part,
 ) -> Result<Option<Answer>, DriverFault>
-    ensures { IfOk result (λ heard. (told : Input) × IsPut priority (frame_of (RandomByte short part)) half.Whole told
+    ensures lost { result ≡ Ok None → is_lost driver.new ≡ true }
+    ensures put { IfOk result (λ heard. (told : Input) × IsPut priority (frame_of (RandomByte short part)) half.Whole told
         (talk_of R.remaining W.contents driver.old) (talk_of R.remaining W.contents driver.new)
         × (heard ≡ answer_told told)) }
+    ensures failed { IfErr result (λ fault. fault_of driver.new ≡ Some fault) }
 {
     let frame = Command::RandomByte(short, part).write();
     driver.ask(priority, frame, Half::Whole)
@@ -159,9 +161,11 @@ fn question<R: Read, W: Write>(
     driver: &mut DriverLink<R, W>,
     short: Short,
 ) -> Result<Option<Answers>, DriverFault>
-    ensures { IfOk result (λ answers. (told : List Input) × IsAsked short told
+    ensures lost { result ≡ Ok None → is_lost driver.new ≡ true }
+    ensures asked { IfOk result (λ answers. (told : List Input) × IsAsked short told
         (talk_of R.remaining W.contents driver.old) (talk_of R.remaining W.contents driver.new)
         × (answers ≡ answers_told told)) }
+    ensures failed { IfErr result (λ fault. fault_of driver.new ≡ Some fault) }
 {
     let Some(high) = byte(driver, Priority::FIRST, short, Part::High)? else {
         return Ok(None);
@@ -187,6 +191,7 @@ fn hear<R: Read, W: Write>(
         (talk_of R.remaining W.contents driver.old) (talk_of R.remaining W.contents driver.new)) }
     ensures lost { result ≡ Err CommissionFault.QuestionLost → IsGivenUpOf wanted short
         (talk_of R.remaining W.contents driver.old) (talk_of R.remaining W.contents driver.new) }
+    ensures failed { IfErr result (λ reason. IsCut reason (talk_of R.remaining W.contents driver.new)) }
 {
     let mut heard = Hearing::nothing();
     let mut lost = 0;
@@ -217,6 +222,7 @@ pub fn ask<R: Read, W: Write>(
         (talk_of R.remaining W.contents driver.old) (talk_of R.remaining W.contents driver.new)) }
     ensures lost { result ≡ Err CommissionFault.QuestionLost → IsGivenUp short
         (talk_of R.remaining W.contents driver.old) (talk_of R.remaining W.contents driver.new) }
+    ensures failed { IfErr result (λ reason. IsCut reason (talk_of R.remaining W.contents driver.new)) }
 {
     let heard = hear(driver, short, QUESTIONS)?;
     Ok(heard.reply)
@@ -242,6 +248,7 @@ pub fn ask_until_clear<R: Read, W: Write>(
         (talk_of R.remaining W.contents driver.old) (talk_of R.remaining W.contents driver.new)) }
     ensures lost { result ≡ Err CommissionFault.QuestionLost → IsGivenUpUnclear short
         (talk_of R.remaining W.contents driver.old) (talk_of R.remaining W.contents driver.new) }
+    ensures failed { IfErr result (λ reason. IsCut reason (talk_of R.remaining W.contents driver.new)) }
 {
     let reply = ask(driver, short)?;
     if is_unclear(&reply) {
@@ -297,6 +304,7 @@ fn count<R: Read, W: Write>(
     ensures lost { result ≡ Err CommissionFault.QuestionLost → (is_known kept.now others.now short ≡ false)
         × IsGivenUpUnclear short (talk_of R.remaining W.contents driver.old)
         (talk_of R.remaining W.contents driver.new) }
+    ensures failed { IfErr result (λ reason. IsCut reason (talk_of R.remaining W.contents driver.new)) }
 {
     if is_known(kept, others, short) {
         Ok(Reply::Silence)
@@ -321,6 +329,7 @@ pub fn take_census<R: Read, W: Write>(
         (talk_of R.remaining W.contents driver.old) (talk_of R.remaining W.contents driver.new)) }
     ensures lost { result ≡ Err CommissionFault.QuestionLost → IsLost kept.now others.now
         (talk_of R.remaining W.contents driver.old) (talk_of R.remaining W.contents driver.new) }
+    ensures failed { IfErr result (λ reason. IsCut reason (talk_of R.remaining W.contents driver.new)) }
 {
     let mut replies = ArrayVec::new();
     for number in 0..64u8 {

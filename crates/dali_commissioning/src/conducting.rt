@@ -3,7 +3,6 @@
 ghost use Rattle.std.specs.Prelude.{◌≡◌, ◌≢◌, ℕ, [], ◌∷◌, true, None, Some, Err, Option, IfOk, IfErr, OnOk};
 ghost use Rattle.std.specs.Prelude.{IfSome, MatchOption};
 ghost use Rattle.std.specs.Io.KnownBytes.{Appends};
-ghost use Rattle.std.specs.Prelude.{◌⊎◌};
 ghost use Rattle.dali_commissioning.specs.Acts.{KeepsRules, LeavesRules, HasWritten, MayCommitLast};
 ghost use Rattle.dali_frame.specs.declared.frames.Forward.{Forward};
 ghost use Rattle.dali_script.specs.Records.{Fits};
@@ -12,7 +11,7 @@ ghost use Rattle.dali_script.specs.declared.orders.Due.TheVariants as due;
 ghost use Rattle.dali_script.specs.declared.orders.Order.TheVariants.{Put};
 ghost use Rattle.dali_script.specs.Sending.{opens};
 ghost use Rattle.dali_commissioning.specs.Steps.{IsStep, if_heard, opened_by};
-ghost use Rattle.dali_commissioning.specs.Drivers.{writer_of, talk_of, IsPart};
+ghost use Rattle.dali_commissioning.specs.Drivers.{writer_of, talk_of, fault_of, IsPutInPart, IsFailed};
 ghost use Rattle.dali_commissioning.specs.Steps.{order_line, record_told, is_kept};
 ghost use Rattle.dali_commissioning.specs.Conducted.{Hears, Commits, MayCommit, Stays, IsAt, IsLeft, HasTaken};
 ghost use Rattle.dali_commissioning.specs.Conducted.{order_of};
@@ -76,8 +75,9 @@ fn put<R: Read, W: Write>(
         (order_line waiting.old (Some (Put priority frame)))) }
     ensures read { IfOk result (Hears (talk_of R.remaining W.contents driver.old)
         (talk_of R.remaining W.contents driver.new)) }
-    ensures part { IfErr result (λ fault. IsPart fault ⊎ Appends (W.contents (writer_of driver.old))
-        (W.contents (writer_of driver.new)) (order_line waiting.old (Some (Put priority frame)))) }
+    ensures part { IfErr result (λ fault. IsPutInPart fault (talk_of R.remaining W.contents driver.old)
+        (talk_of R.remaining W.contents driver.new) (order_line waiting.old (Some (Put priority frame)))) }
+    ensures failed { IfErr result (λ fault. fault_of driver.new ≡ Some fault) }
     ensures waiting { IfOk result (λ told. waiting.new
         ≡ if_heard told (opened_by waiting.old (Some (Put priority frame)))) }
 {
@@ -140,6 +140,7 @@ fn answer<K: Keep, R: Read, W: Write>(
         (record_ordered (Some order.now))) }
     ensures begun { IfErr result (λ fault. HasWritten fault (talk_of R.remaining W.contents driver.old)
         (talk_of R.remaining W.contents driver.new) (order_line waiting.old (Some order.now))) }
+    ensures failed { IfErr result (λ reason. IsFailed reason (talk_of R.remaining W.contents driver.new)) }
     ensures not_spent { result ≢ Err CommissionFault.StepsSpent }
     ensures one_run { result ≢ Err CommissionFault.RunsSpent }
     ensures none_lost { result ≢ Err CommissionFault.QuestionLost }
@@ -228,9 +229,10 @@ pub fn conduct<K: Keep, R: Read, W: Write, P: Watch>(
     ensures block { K.block keep.new ≡ K.block keep.old }
     ensures rules { IfOk result (λ _. machine.old.trace ≡ [] → KeepsRules K.is_up K.is_sound K.holds keep.old keep.new
         machine.old.kept (talk_of R.remaining W.contents driver.old) (talk_of R.remaining W.contents driver.new)) }
-    ensures left_rules { IfErr result (λ fault. machine.old.trace ≡ [] → LeavesRules K.is_up K.is_sound K.holds fault
-        keep.old keep.new machine.old.kept (talk_of R.remaining W.contents driver.old)
+    ensures left_rules { IfErr result (λ fault. machine.old.trace ≡ [] → LeavesRules K.is_up K.is_sound K.holds start
+        fault keep.old keep.new machine.old (talk_of R.remaining W.contents driver.old)
         (talk_of R.remaining W.contents driver.new)) }
+    ensures failed { IfErr result (λ reason. IsFailed reason (talk_of R.remaining W.contents driver.new)) }
 {
     let mut waiting = None;
     let mut committed = false;

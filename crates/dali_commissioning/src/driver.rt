@@ -4,6 +4,7 @@
 ghost use Rattle.std.specs.Prelude.{◌≡◌, ◌≢◌};
 ghost use Rattle.dali_commissioning.specs.Drivers.{is_answer};
 
+use crate::lighting::is_sent;
 use crate::lines::{push_put, told_of};
 use arrayvec::ArrayVec;
 use dali_frame::{Answer, Forward, Priority};
@@ -82,8 +83,9 @@ fn is_answer(told: Input) -> bool
 
 /// A driver, by what is read from it and written to it.
 ///
-/// Contracts see both, how many lines were begun to be read from it, the one that was read last, and whether any gear
-/// was heard.
+/// Contracts see both, how many lines were begun to be read from it, the one that was read last, whether any gear was
+/// heard, whether the last frame was lost, and the fault: once a line could not be written or read, no frame is put any
+/// more.
 pub struct DriverLink<R, W> {
     reader: R,
     writer: W,
@@ -92,6 +94,10 @@ pub struct DriverLink<R, W> {
     lines: u64,
     line: ArrayVec<u8, 16>,
     has_heard: bool,
+    /// Whether the last frame was lost.
+    is_lost: bool,
+    /// Why the last frame failed, if it did.
+    fault: Option<DriverFault>,
 }
 
 impl<R: Drop, W: Drop> Drop for DriverLink<R, W> {
@@ -103,19 +109,23 @@ impl<R: Drop, W: Drop> Drop for DriverLink<R, W> {
             lines: _,
             line: _,
             has_heard: _,
+            is_lost: _,
+            fault: _,
         } = self;
     }
 }
 
 impl<R: Read, W: Write> DriverLink<R, W> {
-    ghost use Rattle.std.specs.Prelude.{◌⊎◌, ◌++◌, [], ◌∷◌, ◌||◌, true, false, None, Err, OnOk, IfOk, IfErr};
+    ghost use Rattle.std.specs.Prelude.{◌⊎◌, ◌++◌, [], ◌∷◌, ◌||◌, true, false, not, Some, None, Ok, Err, OnOk};
+    ghost use Rattle.std.specs.Prelude.{IfOk, IfErr, IfSome};
     ghost use Rattle.std.specs.Io.KnownBytes.{Appends, Consumes};
     ghost use Rattle.dali_script.specs.Due.{accepts};
     ghost use Rattle.dali_script.specs.declared.orders.Due.TheVariants as due;
     ghost use Rattle.dali_commissioning.specs.Lines.{told_of, Tells, put_text};
     ghost use Rattle.dali_commissioning.specs.Drivers.{reader_of, writer_of, lines_of, next_line, line_of};
-    ghost use Rattle.dali_commissioning.specs.Census.{IsPut, answer_told};
-    ghost use Rattle.dali_commissioning.specs.Drivers.{has_heard, is_answer, talk_of, IsPart};
+    ghost use Rattle.dali_commissioning.specs.Census.{IsPut, answer_told, is_sent};
+    ghost use Rattle.dali_commissioning.specs.Drivers.{has_heard, is_answer, talk_of, fault_of, is_lost, IsPart};
+    ghost use Rattle.dali_commissioning.specs.Drivers.{IsPutInPart};
     ghost use Rattle.dali_commissioning.specs.declared.driver.DriverFault.TheVariants.{BadLine};
 
     /// A driver of which no line was read. What it writes is read by `reader`, and it reads what `writer` writes.
@@ -124,6 +134,7 @@ impl<R: Read, W: Write> DriverLink<R, W> {
         ensures writer { writer_of result ≡ writer }
         ensures lines { lines_of result ≡ 0 }
         ensures unheard { has_heard result ≡ false }
+        ensures open { fault_of result ≡ None }
     {
         DriverLink {
             reader,
@@ -132,6 +143,8 @@ impl<R: Read, W: Write> DriverLink<R, W> {
             lines: 0,
             line: ArrayVec::new(),
             has_heard: false,
+            is_lost: false,
+            fault: None,
         }
     }
 
@@ -164,6 +177,7 @@ impl<R: Read, W: Write> DriverLink<R, W> {
         ensures writer { writer_of self.new ≡ writer_of self.old }
         ensures lines { lines_of self.new ≡ next_line (lines_of self.old) }
         ensures heard { has_heard self.new ≡ has_heard self.old }
+        ensures fault { fault_of self.new ≡ fault_of self.old }
         ensures not_bad { result ≢ Err BadLine }
     {
         self.lines = self.lines.saturating_add(1);
@@ -193,6 +207,7 @@ impl<R: Read, W: Write> DriverLink<R, W> {
         ensures writer { writer_of self.new ≡ writer_of self.old }
         ensures lines { lines_of self.new ≡ next_line (lines_of self.old) }
         ensures heard { IfOk result (λ told. has_heard self.new ≡ has_heard self.old || is_answer told) }
+        ensures fault { fault_of self.new ≡ fault_of self.old }
         ensures bad { result ≡ Err BadLine → told_of (line_of self.new) ≡ None }
     {
         self.read_line()?;
@@ -205,9 +220,9 @@ impl<R: Read, W: Write> DriverLink<R, W> {
         }
     }
 
-    /// Writes the line of a frame, and reads nothing: what comes of it is not learned.
+    /// Writes the line of a frame.
     #[tactic(auto, using(crate::proofs::Written::appends_kept))]
-    pub fn announce(
+    fn write_put(
         &mut self,
         priority: Priority,
         frame: Forward,
@@ -229,7 +244,62 @@ impl<R: Read, W: Write> DriverLink<R, W> {
         Ok(())
     }
 
-    /// Puts a frame: writes its line, and reads what came of it.
+    /// Writes the line of a frame, and reads nothing: what comes of it is not learned. This is done after a fault, too,
+    /// which is over then.
+    pub(crate) fn announce(
+        &mut self,
+        priority: Priority,
+        frame: Forward,
+        half: Half,
+    ) -> Result<(), DriverFault>
+        ensures wrote { OnOk result (Appends (W.contents (writer_of self.old)) (W.contents (writer_of self.new))
+            (put_text priority frame half)) }
+        ensures reader { reader_of self.new ≡ reader_of self.old }
+        ensures lines { lines_of self.new ≡ lines_of self.old }
+        ensures heard { has_heard self.new ≡ has_heard self.old }
+        ensures part { IfErr result IsPart }
+        ensures failed { IfErr result (λ fault. fault_of self.new ≡ Some fault) }
+        ensures open { OnOk result (fault_of self.new ≡ None) }
+        ensures not_bad { result ≢ Err BadLine }
+    {
+        match self.write_put(priority, frame, half) {
+            Ok(()) => {
+                self.fault = None;
+                Ok(())
+            }
+            Err(fault) => {
+                self.fault = Some(fault);
+                Err(fault)
+            }
+        }
+    }
+
+    /// What the driver's next line tells, and the fault if that is not learned.
+    fn learn(&mut self) -> Result<Input, DriverFault>
+        ensures told { IfOk result (Tells (R.remaining (reader_of self.old)) (R.remaining (reader_of self.new))) }
+        ensures of_bus { IfOk result (λ told. accepts due.Bus told ≡ true) }
+        ensures writer { writer_of self.new ≡ writer_of self.old }
+        ensures lines { lines_of self.new ≡ next_line (lines_of self.old) }
+        ensures heard { IfOk result (λ told. has_heard self.new ≡ has_heard self.old || is_answer told) }
+        ensures failed { IfErr result (λ fault. fault_of self.new ≡ Some fault) }
+        ensures open { OnOk result (fault_of self.new ≡ fault_of self.old) }
+        ensures lost { IfOk result (λ told. is_lost self.new ≡ not (is_sent told)) }
+        ensures bad { result ≡ Err BadLine → told_of (line_of self.new) ≡ None }
+    {
+        match self.read_told() {
+            Ok(told) => {
+                self.is_lost = !is_sent(told);
+                Ok(told)
+            }
+            Err(fault) => {
+                self.fault = Some(fault);
+                Err(fault)
+            }
+        }
+    }
+
+    /// Puts a frame: writes its line, and reads what came of it. After a fault neither is done, and that fault is
+    /// answered again.
     ///
     /// A driver that never answers is waited for as long as its line can be read.
     pub fn exchange(
@@ -241,15 +311,22 @@ impl<R: Read, W: Write> DriverLink<R, W> {
         ensures wrote { IfOk result (λ _. Appends (W.contents (writer_of self.old)) (W.contents (writer_of self.new))
             (put_text priority frame half)) }
         ensures told { IfOk result (Tells (R.remaining (reader_of self.old)) (R.remaining (reader_of self.new))) }
-        ensures part { IfErr result (λ fault. IsPart fault ⊎ Appends (W.contents (writer_of self.old))
-            (W.contents (writer_of self.new)) (put_text priority frame half)) }
+        ensures closed { IfSome (fault_of self.old) (λ fault. (self.new ≡ self.old) × (result ≡ Err fault)) }
+        ensures failed { IfErr result (λ fault. fault_of self.new ≡ Some fault) }
+        ensures open { OnOk result (fault_of self.new ≡ None) }
+        ensures lost { IfOk result (λ told. is_lost self.new ≡ not (is_sent told)) }
+        ensures part { IfErr result (λ fault. IsPutInPart fault (talk_of R.remaining W.contents self.old)
+            (talk_of R.remaining W.contents self.new) (put_text priority frame half)) }
         ensures of_bus { IfOk result (λ told. accepts due.Bus told ≡ true) }
         ensures lines { IfOk result (λ _. lines_of self.new ≡ next_line (lines_of self.old)) }
         ensures heard { IfOk result (λ told. has_heard self.new ≡ has_heard self.old || is_answer told) }
-        ensures bad { result ≡ Err BadLine → told_of (line_of self.new) ≡ None }
+        ensures bad { fault_of self.old ≡ None → result ≡ Err BadLine → told_of (line_of self.new) ≡ None }
     {
+        if let Some(fault) = self.fault {
+            return Err(fault);
+        }
         self.announce(priority, frame, half)?;
-        self.read_told()
+        self.learn()
     }
 
     /// The same: what was heard after the frame; None if it was lost.
@@ -259,9 +336,11 @@ impl<R: Read, W: Write> DriverLink<R, W> {
         frame: Forward,
         half: Half,
     ) -> Result<Option<Answer>, DriverFault>
-        ensures { IfOk result (λ heard. (told : Input) × IsPut priority frame half told
+        ensures lost { result ≡ Ok None → is_lost self.new ≡ true }
+        ensures put { IfOk result (λ heard. (told : Input) × IsPut priority frame half told
             (talk_of R.remaining W.contents self.old) (talk_of R.remaining W.contents self.new)
             × (heard ≡ answer_told told)) }
+        ensures failed { IfErr result (λ fault. fault_of self.new ≡ Some fault) }
     {
         match self.exchange(priority, frame, half)? {
             Input::Heard(heard) => Ok(Some(heard)),

@@ -21,6 +21,14 @@ ghost use Rattle.dali_commissioning.specs.Giving.{ReserveNothing, Gives};
 ghost use Rattle.dali_statement.specs.Own.{AreOwn};
 ghost use Rattle.dali_controller.specs.Acts.{own_of};
 ghost use Rattle.dali_commissioning.specs.Acts.{acts_by, outstanding, records_of};
+ghost use Rattle.std.specs.Prelude.{Bool};
+ghost use Rattle.dali_special.specs.Command.{command_of};
+ghost use Rattle.dali_special.specs.declared.command.Command.TheVariants.{Arc};
+ghost use Rattle.dali_commissioning.specs.Drivers.{Talk};
+ghost use Rattle.dali_commissioning.specs.Census.{IsPut, IsAnswered, IsCleared, AreCounted};
+ghost use Rattle.dali_commissioning.specs.Unaddressed.{asking, asking_beside, AreLeftOver};
+ghost use Rattle.dali_commissioning.specs.Rules.{AsksByRules};
+ghost use Rattle.dali_commissioning.specs.declared.census.Reply.{Reply};
 
 use dali_frame::laws::frames_are_spelled;
 
@@ -87,4 +95,18 @@ pub fn what_is_conducted_keeps_to_scripts()
     ensures last { (m n : Machine) (steps : List Step) → m.last ≡ None → m.trace ≡ [] → AreSteps m steps n
         → AreOwn (own_of m) (acts_by steps ++ outstanding (last_order steps)) }
     ensures records { (steps : List Step) → records_of (acts_by steps) ≡ committed_by steps }
+{}
+
+/// QUESTIONS KEEP THE RULES OF THE PAGE, whoever asks and whatever is heard: what was put while a short address was
+/// asked (`answered`), or asked until it was clear (`cleared`), while all were asked (`census`), and while gear without
+/// short address were, all of them (`unaddressed`) or those beside one (`beside`). So does direct arc power (`lit`).
+pub fn questions_keep_the_rules_of_the_page()
+    ensures answered { (a : ℕ) (r : Reply) (x y : Talk) → a < 64 → IsAnswered a r x y → AsksByRules x y }
+    ensures cleared { (a : ℕ) (r : Reply) (x y : Talk) → a < 64 → IsCleared a r x y → AsksByRules x y }
+    ensures census { (k : Kept) (others : List Block) (replies : List Reply) (x y : Talk) → length replies ≤ 64
+        → AreCounted k others 0 replies x y → AsksByRules x y }
+    ensures unaddressed { (found : Bool) (x y : Talk) → AreLeftOver asking found x y → AsksByRules x y }
+    ensures beside { (r : ℕ) (found : Bool) (x y : Talk) → AreLeftOver (asking_beside r) found x y → AsksByRules x y }
+    ensures lit { (p : ℕ) (f : Forward) (half : Half) (told : Input) (x y : Talk) → command_of f ≡ Arc f
+        → IsPut p f half told x y → AsksByRules x y }
 {}

@@ -1,10 +1,8 @@
 //! Gear without short address: whether there is exactly one.
 
-ghost use Rattle.std.specs.Prelude.{◌≡◌, ℕ, false, true, Ok};
-ghost use Rattle.dali_commissioning.specs.declared.newcomers.Newcomers.TheVariants as found;
-ghost use Rattle.dali_commissioning.specs.Drivers.{Talk, talk_of};
-ghost use Rattle.dali_commissioning.specs.Looking.{without_any};
-ghost use Rattle.dali_commissioning.specs.Unaddressed.{asking_beside, AreLeftOver};
+ghost use Rattle.std.specs.Prelude.{◌≡◌, IfOk, IfErr};
+ghost use Rattle.dali_commissioning.specs.Drivers.{talk_of};
+ghost use Rattle.dali_commissioning.specs.Looking.{without_any, HasLookedFor, HasNotLooked};
 
 use crate::conducting::Ended;
 use crate::driver::DriverLink;
@@ -53,10 +51,10 @@ pub fn look_for_newcomers<R: Read, W: Write, P: Watch>(
     driver: &mut DriverLink<R, W>,
     watch: &mut P,
 ) -> Result<Newcomers, CommissionFault>
-    ensures one { (r : ℕ) → result ≡ Ok (found.One r) → (at : Talk) × AreLeftOver (asking_beside r) false at
-        (talk_of R.remaining W.contents driver.new) }
-    ensures several { result ≡ Ok found.Several → (r : ℕ) × (at : Talk) × AreLeftOver (asking_beside r) true at
-        (talk_of R.remaining W.contents driver.new) }
+    ensures looked { IfOk result (λ found. HasLookedFor keep found (talk_of R.remaining W.contents driver.old)
+        (talk_of R.remaining W.contents driver.new)) }
+    ensures failed { IfErr result (λ reason. HasNotLooked keep reason (talk_of R.remaining W.contents driver.old)
+        (talk_of R.remaining W.contents driver.new)) }
 {
     let mut looking = Looking::over(keep);
     let fault = match commission(&mut looking, driver, watch, Input::Survey, 1) {

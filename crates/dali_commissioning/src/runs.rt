@@ -6,7 +6,7 @@ ghost use Rattle.dali_script.specs.declared.orders.Due.TheVariants as due;
 ghost use Rattle.dali_script.specs.declared.orders.End.TheVariants as ends;
 ghost use Rattle.dali_statement.specs.Own.{Act};
 ghost use Rattle.dali_commissioning.specs.Acts.{RunsKeepRules, RunsLeaveRules, IsLeftRun};
-ghost use Rattle.dali_commissioning.specs.Drivers.{talk_of};
+ghost use Rattle.dali_commissioning.specs.Drivers.{talk_of, IsFailed};
 ghost use Rattle.dali_commissioning.specs.Steps.{has_committed};
 ghost use Rattle.dali_commissioning.specs.Conducted.{Stays};
 ghost use Rattle.dali_commissioning.specs.Runs.{Run, IsRun, AreRuns, HaveRun, AreQuiet, EndWith, ComeTo, Grows};
@@ -62,8 +62,9 @@ fn run<K: Keep, R: Read, W: Write, P: Watch>(
     ensures one_run { result ≢ Err CommissionFault.RunsSpent }
     ensures none_lost { result ≢ Err CommissionFault.QuestionLost }
     ensures left_rules { IfErr result (λ reason. (acts : List Act) × IsLeftRun K.is_up K.is_sound K.holds
-        (K.block keep.old) reason keep.old keep.new (talk_of R.remaining W.contents driver.old)
+        (K.block keep.old) start reason keep.old keep.new (talk_of R.remaining W.contents driver.old)
         (talk_of R.remaining W.contents driver.new) acts) }
+    ensures failed { IfErr result (λ reason. IsFailed reason (talk_of R.remaining W.contents driver.new)) }
 {
     let kept = match keep.read() {
         Ok(kept) => kept,
@@ -113,6 +114,7 @@ pub fn commission<K: Keep, R: Read, W: Write, P: Watch>(
     ensures left_rules { IfErr result (λ reason. RunsLeaveRules K.is_up K.is_sound K.holds (K.block keep.old) start
         reason keep.old keep.new (talk_of R.remaining W.contents driver.old)
         (talk_of R.remaining W.contents driver.new)) }
+    ensures failed { IfErr result (λ reason. IsFailed reason (talk_of R.remaining W.contents driver.new)) }
 {
     let mut quiet = 0;
     for _ in 0..MOST_RUNS {

@@ -1,9 +1,9 @@
 //! Gear without short address: whether there is any, and any other than one. And whether a gear hangs at an address.
 
-ghost use Rattle.std.specs.Prelude.{◌≡◌, ◌||◌, List, Some, Err, IfOk};
+ghost use Rattle.std.specs.Prelude.{◌≡◌, ◌||◌, true, List, Some, None, Ok, Err, IfOk, IfErr};
 ghost use Rattle.dali_frame.specs.declared.frames.Answer.{Answer};
 ghost use Rattle.dali_script.specs.declared.orders.Input.{Input};
-ghost use Rattle.dali_commissioning.specs.Drivers.{talk_of};
+ghost use Rattle.dali_commissioning.specs.Drivers.{talk_of, fault_of, is_lost, IsCut};
 ghost use Rattle.dali_commissioning.specs.Unaddressed.{put_so, is_yes, joined_yes, ArePut, found_by};
 ghost use Rattle.dali_commissioning.specs.Unaddressed.{asking, asking_beside, asking_under, AreLeftOver, AreLostSo};
 
@@ -178,9 +178,11 @@ fn put_all<R: Read, W: Write>(
     driver: &mut DriverLink<R, W>,
     puttings: &[Putting],
 ) -> Result<Option<bool>, DriverFault>
-    ensures { IfOk result (λ found. (told : List Input) × ArePut puttings.now told
+    ensures lost { result ≡ Ok None → is_lost driver.new ≡ true }
+    ensures put { IfOk result (λ found. (told : List Input) × ArePut puttings.now told
         (talk_of R.remaining W.contents driver.old) (talk_of R.remaining W.contents driver.new)
         × (found ≡ found_by puttings.now told)) }
+    ensures failed { IfErr result (λ fault. fault_of driver.new ≡ Some fault) }
 {
     match puttings {
         [] => Ok(Some(false)),
@@ -203,6 +205,7 @@ fn put_to_the_end<R: Read, W: Write>(
         (talk_of R.remaining W.contents driver.old) (talk_of R.remaining W.contents driver.new)) }
     ensures lost { result ≡ Err CommissionFault.QuestionLost → AreLostSo puttings.now
         (talk_of R.remaining W.contents driver.old) (talk_of R.remaining W.contents driver.new) }
+    ensures failed { IfErr result (λ reason. IsCut reason (talk_of R.remaining W.contents driver.new)) }
 {
     for _ in 0..LOST {
         match put_all(driver, puttings) {
@@ -224,6 +227,7 @@ pub fn has_unaddressed<R: Read, W: Write>(
         (talk_of R.remaining W.contents driver.old) (talk_of R.remaining W.contents driver.new)) }
     ensures lost { result ≡ Err CommissionFault.QuestionLost → AreLostSo asking
         (talk_of R.remaining W.contents driver.old) (talk_of R.remaining W.contents driver.new) }
+    ensures failed { IfErr result (λ reason. IsCut reason (talk_of R.remaining W.contents driver.new)) }
 {
     put_to_the_end(driver, &asking())
 }
@@ -238,6 +242,7 @@ pub(crate) fn has_others<R: Read, W: Write>(
         (talk_of R.remaining W.contents driver.old) (talk_of R.remaining W.contents driver.new)) }
     ensures lost { result ≡ Err CommissionFault.QuestionLost → AreLostSo (asking_beside random)
         (talk_of R.remaining W.contents driver.old) (talk_of R.remaining W.contents driver.new) }
+    ensures failed { IfErr result (λ reason. IsCut reason (talk_of R.remaining W.contents driver.new)) }
 {
     put_to_the_end(driver, &asking_beside(random))
 }
@@ -254,6 +259,7 @@ pub fn has_under<R: Read, W: Write>(
         (talk_of R.remaining W.contents driver.old) (talk_of R.remaining W.contents driver.new)) }
     ensures lost { result ≡ Err CommissionFault.QuestionLost → AreLostSo (asking_under short random)
         (talk_of R.remaining W.contents driver.old) (talk_of R.remaining W.contents driver.new) }
+    ensures failed { IfErr result (λ reason. IsCut reason (talk_of R.remaining W.contents driver.new)) }
 {
     put_to_the_end(driver, &asking_under(short, random))
 }

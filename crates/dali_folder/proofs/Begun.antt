@@ -23,6 +23,6 @@ begun_writing name bytes part events begun (inl both) = inl both
 begun_writing name bytes part events begun (inr (end, inl same)) = inr (end, (bytes, same))
 begun_writing name bytes part events begun (inr (end, inr (other, some, more, is, writes))) =
     inr (end, (some, is ∙ ap (λ n. Writes n some) (sym (ap name_of writes)))) where
-  name_of : Event → List ℕ
-  name_of (Writes n b) = n
-  name_of _ = []
+      name_of : Event → List ℕ
+      name_of (Writes n b) = n
+      name_of _ = []

@@ -19,20 +19,20 @@ module _ (name : List ℕ) (was s : Folders) (settled : IsSettled was) (happens 
 
   pub gone_disk : AreSame s.disk was.holds ⊎ AreSame s.disk (put name None was.holds)
   gone_disk = elim (happens.disk) [
-    inl same ↦ inl (λ other. same other ∙ settled.disk other)
+    | inl same ↦ inl (λ other. same other ∙ settled.disk other)
     | inr same ↦ inr (λ other. same other ∙ put_both name None was.disk was.holds other (λ _. settled.disk other))
   ]
 
   gone_beside : (other : List ℕ) → other ≢ name → s.disk other ≡ s.holds other
   gone_beside other differs = elim (gone_disk) [
-    inl same ↦ same other ∙ sym (gone other ∙ put_other name None was.holds other differs)
+    | inl same ↦ same other ∙ sym (gone other ∙ put_other name None was.holds other differs)
     | inr same ↦ same other ∙ sym (gone other)
   ]
 
   pub gone_settles : (t : Folders) → Happens (SyncsFolder name) s t → IsSettled t × AreSame t.holds (put name None was.holds)
   gone_settles t syncs =
       let all = settles name s t syncs gone_bytes (λ other far. let differs : other ≢ name = λ e. far (ap folder_of e) in
-          (gone_names other differs, gone_beside other differs)) in
+      (gone_names other differs, gone_beside other differs)) in
       (all.0, (λ other. all.1 other ∙ gone other))
 
 module _ (name : List ℕ) (was now : Folders) (settled : IsSettled was) where
@@ -79,7 +79,7 @@ module _ (from to : List ℕ) (was s : Folders) (settled : IsSettled was) (happe
 
   pub away_disk : AreSame s.disk was.holds ⊎ AreSame s.disk (moved from to was.holds)
   away_disk = elim (happens.disk) [
-    inl same ↦ inl (λ other. same other ∙ settled.disk other)
+    | inl same ↦ inl (λ other. same other ∙ settled.disk other)
     | inr (file, may, same) ↦ inr (λ other. same other ∙ ap (λ o. moving o from to was.disk other) (may.1 (settled.bytes from))
         ∙ moving_both (was.holds from) from to was.disk was.holds other (settled.disk other))
   ]
@@ -91,7 +91,7 @@ module _ (from to : List ℕ) (was s : Folders) (settled : IsSettled was) (happe
 
   away_beside : (other : List ℕ) → other ≢ from → other ≢ to → s.disk other ≡ s.holds other
   away_beside other not_from not_to = elim (away_disk) [
-    inl same ↦ same other ∙ sym (away other ∙ unmoved (was.holds from) other not_from not_to)
+    | inl same ↦ same other ∙ sym (away other ∙ unmoved (was.holds from) other not_from not_to)
     | inr same ↦ same other ∙ sym (away other)
   ]
 
@@ -99,9 +99,9 @@ module _ (from to : List ℕ) (was s : Folders) (settled : IsSettled was) (happe
       → IsSettled t × AreSame t.holds (moved from to was.holds)
   away_settles near t syncs =
       let all = settles to s t syncs away_bytes (λ other far.
-          let not_to : other ≢ to = λ e. far (ap folder_of e) in
-          let not_from : other ≢ from = λ e. far (ap folder_of e ∙ near) in
-          (away_names other not_from not_to, away_beside other not_from not_to)) in
+      let not_to : other ≢ to = λ e. far (ap folder_of e) in
+      let not_from : other ≢ from = λ e. far (ap folder_of e ∙ near) in
+      (away_names other not_from not_to, away_beside other not_from not_to)) in
       (all.0, (λ other. all.1 other ∙ away other))
 
 -- a file is renamed, once a log that was left there is removed
@@ -116,7 +116,7 @@ module _ (log from to : List ℕ) (was now : Folders) (not_from : from ≢ log) 
 
   left_gone : (s : Folders) → Happens (Removes log) was s → IsLeftSo s
   left_gone s removes = inl (λ other differs. elim (gone_disk log was s settled removes) [
-    inl same ↦ same other
+    | inl same ↦ same other
     | inr same ↦ same other ∙ put_other log None was.holds other differs
   ])
 
@@ -126,7 +126,7 @@ module _ (log from to : List ℕ) (was now : Folders) (not_from : from ≢ log) 
 
     left_away : (v : Folders) → Happens (Renames from to) u v → IsLeftSo v
     left_away v renames = elim (away_disk from to u v known.0 renames) [
-      inl same ↦ inl (λ other differs. same other ∙ known.1 other ∙ put_other log None was.holds other differs)
+      | inl same ↦ inl (λ other differs. same other ∙ known.1 other ∙ put_other log None was.holds other differs)
       | inr same ↦ inr (λ other differs. same other ∙ same_moved u.holds known.1 other differs)
     ]
 
@@ -168,6 +168,8 @@ module _ (log from to : List ℕ) (was now : Folders) (not_from : from ≢ log) 
   ended_renaming (s, removes, (u, syncs, (v, renames, (w, syncs_folder, done)))) =
       let known = gone_settles log was s settled removes u syncs in
       let all = away_settles from to u v known.0 renames near w syncs_folder in
-      subst (λ (f : Folders). IsSettled f × AreSame f.holds (moved from to (put log None was.holds))) done
-      (all.0, (λ other. all.1 other ∙ ap (λ o. moving o from to u.holds other) (known.1 from)
-          ∙ moving_both (put log None was.holds from) from to u.holds (put log None was.holds) other (known.1 other)))
+      subst (λ (f : Folders). IsSettled f × AreSame f.holds (moved from to (put log None was.holds))) done (
+        all.0,
+        (λ other. all.1 other ∙ ap (λ o. moving o from to u.holds other) (known.1 from)
+            ∙ moving_both (put log None was.holds from) from to u.holds (put log None was.holds) other (known.1 other)),
+      )

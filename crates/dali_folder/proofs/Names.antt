@@ -6,7 +6,7 @@ use Rattle.dali_folder.specs.Folder.{Names, put, moving, has_slash, folder_of}
 
 pub decided : (a b : List ℕ) → (a ≡ b) ⊎ (a ≢ b)
 decided a b = elim (cases_Bool (bytes_eq a b)) [
-  inl is ↦ inl ((bytes_eq-Decides a b).0 is)
+  | inl is ↦ inl ((bytes_eq-Decides a b).0 is)
   | inr not ↦ inr (λ e. let is = (bytes_eq-Decides a b).1 e in grind (arith, is, not))
 ]
 
@@ -22,7 +22,7 @@ put_other name it names other differs = cond-false (bytes_eq other name) it (nam
 pub put_is : {X : Type 0} (name : List ℕ) (it : X) (names : List ℕ → X) (other : List ℕ) (is : X) → (other ≡ name → it ≡ is)
     → (other ≢ name → names other ≡ is) → put name it names other ≡ is
 put_is name it names other is here there = elim (decided other name) [
-  inl same ↦ ap (λ o. put name it names o) same ∙ put_here name it names ∙ here same
+  | inl same ↦ ap (λ o. put name it names o) same ∙ put_here name it names ∙ here same
   | inr differs ↦ put_other name it names other differs ∙ there differs
 ]
 

@@ -29,13 +29,13 @@ module _ (name : List ℕ) (s t : Folders) (happens : Happens (SyncsFolder name)
   pub disk_then : (other : List ℕ) → s.is_synced other ≡ true → (folder_of other ≢ folder_of name → s.disk other ≡ s.holds other)
       → t.disk other ≡ s.holds other
   disk_then other bytes outside = elim (decided (folder_of other) (folder_of name)) [
-    inl same ↦ ((happens.disk other).0 same).1 bytes
+    | inl same ↦ ((happens.disk other).0 same).1 bytes
     | inr differs ↦ (happens.disk other).1 differs ∙ outside differs
   ]
 
   pub settled_then : (other : List ℕ) → (folder_of other ≢ folder_of name → s.is_settled other ≡ true) → t.is_settled other ≡ true
   settled_then other outside = at t.is_settled _ other happens.names ∙ elim (decided (folder_of other) (folder_of name)) [
-    inl same ↦ cond-true (bytes_eq (folder_of other) (folder_of name)) true (s.is_settled other)
+    | inl same ↦ cond-true (bytes_eq (folder_of other) (folder_of name)) true (s.is_settled other)
         ((bytes_eq-Decides (folder_of other) (folder_of name)).1 same)
     | inr differs ↦ cond-false (bytes_eq (folder_of other) (folder_of name)) true (s.is_settled other)
         (not_same (folder_of other) (folder_of name) differs) ∙ outside differs

@@ -63,7 +63,7 @@ module _ (part name text : List ℕ) (was s t : Folders) (before : IsQuiet part 
 
   pub placed_disk : AreSameBut part t.disk was.holds ⊎ AreSameBut part t.disk (put name (Some text) was.holds)
   placed_disk = elim (happens.disk) [
-    inl same ↦ inl (λ other differs. same other ∙ before.disk other differs)
+    | inl same ↦ inl (λ other differs. same other ∙ before.disk other differs)
     | inr (file, may, same) ↦ inr (λ other differs. same other ∙ ap (λ o. moving o part name s.disk other) (may.1 bytes ∙ has)
         ∙ put_both name (Some text) (put part None s.disk) was.holds other
         (λ _. put_other part None s.disk other differs ∙ before.disk other differs))
@@ -77,10 +77,10 @@ module _ (part name text : List ℕ) (was now : Folders) (apart : part ≢ name)
   left_settled : (s t : Folders) → ((other : List ℕ) → s.holds other ≡ put name (Some text) (put part None was.holds) other)
       → ((other : List ℕ) → s.is_synced other ≡ true) → IsLeft s → Happens (SyncsFolder name) s t → IsLeft t
   left_settled s t holds bytes left happens = inr (λ other differs. elim (decided (folder_of other) (folder_of name)) [
-    inl same ↦ ((happens.disk other).0 same).1 (bytes other) ∙ holds other
+    | inl same ↦ ((happens.disk other).0 same).1 (bytes other) ∙ holds other
         ∙ put_both name (Some text) (put part None was.holds) was.holds other (λ _. put_other part None was.holds other differs)
     | inr far ↦ (happens.disk other).1 far ∙ elim (left) [
-      inl same ↦ same other differs ∙ sym (put_other name (Some text) was.holds other (λ e. far (ap folder_of e)))
+      | inl same ↦ same other differs ∙ sym (put_other name (Some text) was.holds other (λ e. far (ap folder_of e)))
       | inr same ↦ same other differs
     ]
   ])
@@ -121,7 +121,7 @@ module _ (part name text : List ℕ) (was now : Folders) (apart : part ≢ name)
   stop_writing [] b s before has e = subst IsLeft e (inl before.disk)
   stop_writing (d ∷ more) b s before has (t, happens, rest) =
       elim (begun_writing part text d (Syncs part ∷ Renames part name ∷ SyncsFolder name ∷ []) more b) [
-        inl both ↦
+        | inl both ↦
             let writes : Happens (Writes part text) s t = subst (λ (e : Event). Happens e s t) both.0 happens in
             stop_syncing more both.1 t (written part was s t before text writes) (has_written part was s t before text writes has) rest
         | inr (end, (some, is)) ↦
@@ -149,16 +149,17 @@ ended part name text was now apart near settled (s1, creates, (s2, writes, (s3, 
     let known = has_synced part was s2 s3 q2 syncs in
     let has3 : s3.holds part ≡ Some text = known.1 ∙ has2 in
     let all = settles name s4 s5 syncs_folder (placed_bytes part name text was s3 s4 q3 known.0 has3 renames)
-        (λ other far.
-            let not_name : other ≢ name = λ e. far (ap folder_of e) in
-            let not_part : other ≢ part = λ e. far (ap folder_of e ∙ near) in
-            let there = placed part name text was s3 s4 q3 known.0 has3 renames other in
-            let as_was : s4.holds other ≡ was.holds other = there ∙ put_other name (Some text) (put part None was.holds) other not_name
-                ∙ put_other part None was.holds other not_part in
-            (placed_names part name text was s3 s4 q3 known.0 has3 renames other not_part not_name,
-            elim (placed_disk part name text was s3 s4 q3 known.0 has3 renames) [
-              inl same ↦ same other not_part ∙ sym as_was
-              | inr same ↦ same other not_part ∙ put_other name (Some text) was.holds other not_name ∙ sym as_was
-            ])) in
+    (λ other far.
+    let not_name : other ≢ name = λ e. far (ap folder_of e) in
+    let not_part : other ≢ part = λ e. far (ap folder_of e ∙ near) in
+    let there = placed part name text was s3 s4 q3 known.0 has3 renames other in
+    let as_was : s4.holds other ≡ was.holds other = there ∙ put_other name (Some text) (put part None was.holds) other not_name
+    ∙ put_other part None was.holds other not_part in (
+      placed_names part name text was s3 s4 q3 known.0 has3 renames other not_part not_name,
+      elim (placed_disk part name text was s3 s4 q3 known.0 has3 renames) [
+        | inl same ↦ same other not_part ∙ sym as_was
+        | inr same ↦ same other not_part ∙ put_other name (Some text) was.holds other not_name ∙ sym as_was
+      ],
+    )) in
     subst (λ (f : Folders). IsSettled f × AreSame f.holds (put name (Some text) (put part None was.holds))) done
     (all.0, (λ other. all.1 other ∙ placed part name text was s3 s4 q3 known.0 has3 renames other))

@@ -17,12 +17,7 @@ fn write_new<D: Folder>(folder: &mut D, name: &str, text: &str) -> io::Result<()
 }
 
 /// Writes a text under a name. `part` is the name of a file that is written first.
-pub fn write_whole<D: Folder>(
-    folder: &mut D,
-    part: &str,
-    name: &str,
-    text: &str,
-) -> io::Result<()>
+pub fn write_whole<D: Folder>(folder: &mut D, part: &str, name: &str, text: &str) -> io::Result<()>
     ensures { AreTried D.did (writing part.now name.now text.now) folder.old folder.new result }
 {
     write_new(folder, part, text)?;

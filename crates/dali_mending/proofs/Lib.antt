@@ -3,3 +3,4 @@ mod Sparing
 mod Tabled
 mod Histories
 mod Kept
+mod Planned

@@ -1,4 +1,5 @@
 pub mod Come
+pub mod Filling
 pub mod Permit
 pub mod Standing
 pub mod Swap

@@ -1,6 +1,8 @@
-use Rattle.std.specs.Prelude.{ℕ, List, [], ◌∷◌, ◌++◌, codes, decimal, map, string_bytes}
+use Rattle.std.specs.Prelude.{ℕ, ◌<◌, ◌≤◌, ◌^◌, List, [], ◌∷◌, ◌++◌, codes, decimal, length, map}
+use Rattle.std.specs.Prelude.{string_bytes}
 use Rattle.std.specs.declared.alloc.Global.{Global}
 use Rattle.std.specs.declared.string.String.{String}
+use Rattle.dali_script.specs.Records.{Has}
 use Rattle.dali_replacement.specs.declared.swapping.Swap.{Swap}
 
 -- what a swap of files is of: the short address that was given anew, the number under which the old
@@ -36,3 +38,19 @@ numbers_line a n = decimal a ++ codes " " ++ decimal n
 
 abbrev pub swap_text : Swap → List ℕ
 swap_text s = lines_of (first_line ∷ numbers_line (address_of s) (number_of s) ∷ texts_of s)
+
+-- A JOURNAL THAT CAN BE READ: its numbers are of their kinds, and there are one name at least and
+-- 64 at most, none of which has the byte that ends a line
+abbrev pub IsWithout : ℕ → List ℕ → Type 0
+IsWithout byte text = Has text byte → ⊥
+
+abbrev pub AreWithout : ℕ → List (List ℕ) → Type 0
+AreWithout byte [] = Unit {0}
+AreWithout byte (text ∷ more) = IsWithout byte text × AreWithout byte more
+
+pub record IsReadable (s : Swap) : Type 0 where
+  pub short : address_of s < 64
+  pub number : number_of s < 2 ^ 32
+  pub some : 0 < length (texts_of s)
+  pub few : length (texts_of s) ≤ 64
+  pub whole : AreWithout 10 (texts_of s)

@@ -1,11 +1,12 @@
 //! A new luminaire that was heard to have the short address.
 
-ghost use Rattle.std.specs.Prelude.{◌≡◌, IfOk, IfSome, OnOk};
+ghost use Rattle.std.specs.Prelude.{◌≡◌, false, IfOk, IfErr, IfSome, OnOk};
 ghost use Rattle.dali_commissioning.specs.declared.census.Reply.TheVariants as heard;
 ghost use Rattle.dali_commissioning.specs.Drivers.{talk_of};
 ghost use Rattle.dali_commissioning.specs.Census.{IsAnswered};
 ghost use Rattle.dali_replacement.specs.Permit.{others_at, others_table};
-ghost use Rattle.dali_replacement.specs.Permit.{confirmed_at, confirmed_random, confirmed_table};
+ghost use Rattle.dali_replacement.specs.Permit.{confirmed_at, confirmed_random, confirmed_table, IsNotConfirmed};
+ghost use Rattle.dali_replacement.specs.Come.{is_random, refusal_of};
 ghost use Rattle.dali_replacement.specs.Tables.{AreGiven};
 
 use crate::come::refusal_of;
@@ -40,6 +41,8 @@ impl Confirmed {
         ensures given { IfOk result (λ seen. AreGiven (others_at others) (confirmed_random seen) news.now) }
         ensures short { IfOk result (λ seen. confirmed_at seen ≡ others_at others) }
         ensures table { IfOk result (λ seen. confirmed_table seen ≡ others_table others) }
+        ensures failed { IfErr result (λ fault. IsNotConfirmed (others_at others) news.now fault
+            (talk_of R.remaining W.contents driver.old) (talk_of R.remaining W.contents driver.new)) }
     {
         let short = others.short();
         let Some(random) = given(short, news) else {
@@ -83,7 +86,8 @@ impl Confirmed {
 
 /// This gear was heard; or why the luminaire is not replaced.
 fn is_heard(random: Random24, reply: Reply) -> Result<(), ReplaceRefusal>
-    ensures { OnOk result (reply ≡ heard.Random random) }
+    ensures heard { OnOk result (reply ≡ heard.Random random) }
+    ensures not { IfErr result (λ why. (is_random random reply ≡ false) × (why ≡ refusal_of reply)) }
 {
     match reply {
         Reply::Random(heard) => {

@@ -4,6 +4,7 @@ ghost use Rattle.std.specs.Prelude.{◌≡◌, ◌≢◌, ◌<◌, [], ◌∷◌
 ghost use Rattle.dali_script.specs.Records.{Has};
 ghost use Rattle.dali_replacement.specs.Tables.{AreShort, HasAllBut, HasAll, Keeps, KeepsReserved, Lacks, Spares};
 ghost use Rattle.dali_replacement.specs.Tables.{IsGathered, Reserves, IsOf, AreOf};
+ghost use Rattle.dali_replacement.specs.Filling.{Fills, PutsOnly};
 
 use crate::tables::has;
 use dali_frame::Short;
@@ -117,6 +118,7 @@ fn enrol<K: Keep>(store: &mut K, kept: &Kept, pair: Pair) -> Result<(), KeepErro
     ensures keeps { OnOk result (Keeps (K.kept store.old) (K.kept store.new)) }
     ensures same { OnOk result ((K.kept store.new).reserved ≡ (K.kept store.old).reserved) }
     ensures block { K.block store.new ≡ K.block store.old }
+    ensures only { PutsOnly K.is_up K.is_sound K.holds (Fills (pair ∷ []) []) store.old store.new }
 {
     let Some(address) = Short::of(pair.address()) else {
         // It is required that the address is below 64.
@@ -141,6 +143,7 @@ fn enrol_all<K: Keep>(store: &mut K, kept: &Kept, pairs: &[Pair]) -> Result<(), 
     ensures keeps { OnOk result (Keeps (K.kept store.old) (K.kept store.new)) }
     ensures same { OnOk result ((K.kept store.new).reserved ≡ (K.kept store.old).reserved) }
     ensures block { K.block store.new ≡ K.block store.old }
+    ensures only { PutsOnly K.is_up K.is_sound K.holds (Fills pairs.now []) store.old store.new }
 {
     let [pair, more @ ..] = pairs else {
         return Ok(());
@@ -154,6 +157,7 @@ fn enrol_all<K: Keep>(store: &mut K, kept: &Kept, pairs: &[Pair]) -> Result<(), 
 pub fn fill<K: Keep>(store: &mut K, table: &Kept) -> Result<(), KeepError>
     ensures all { OnOk result (Keeps table.now (K.kept store.new)) }
     ensures block { K.block store.new ≡ K.block store.old }
+    ensures only { PutsOnly K.is_up K.is_sound K.holds (Fills table.now.enrolled []) store.old store.new }
 {
     let kept = store.read()?;
     enrol_all(store, &kept, table.enrolled())
@@ -168,6 +172,7 @@ fn reserve<K: Keep>(store: &mut K, kept: &Kept, pair: Pair) -> Result<(), KeepEr
     ensures keeps { OnOk result (KeepsReserved (K.kept store.old) (K.kept store.new)) }
     ensures same { OnOk result ((K.kept store.new).enrolled ≡ (K.kept store.old).enrolled) }
     ensures block { K.block store.new ≡ K.block store.old }
+    ensures only { PutsOnly K.is_up K.is_sound K.holds (Fills (pair ∷ []) (pair ∷ [])) store.old store.new }
 {
     let Some(address) = Short::of(pair.address()) else {
         return Err(KeepError::BadStore);
@@ -195,6 +200,7 @@ fn reserve_if<K: Keep>(
     ensures keeps { OnOk result (KeepsReserved (K.kept store.old) (K.kept store.new)) }
     ensures same { OnOk result ((K.kept store.new).enrolled ≡ (K.kept store.old).enrolled) }
     ensures block { K.block store.new ≡ K.block store.old }
+    ensures only { PutsOnly K.is_up K.is_sound K.holds (Fills table.now.enrolled (pair ∷ [])) store.old store.new }
 {
     if has(table.enrolled(), pair) {
         reserve(store, kept, pair)
@@ -217,6 +223,7 @@ fn reserve_all<K: Keep>(
     ensures keeps { OnOk result (KeepsReserved (K.kept store.old) (K.kept store.new)) }
     ensures same { OnOk result ((K.kept store.new).enrolled ≡ (K.kept store.old).enrolled) }
     ensures block { K.block store.new ≡ K.block store.old }
+    ensures only { PutsOnly K.is_up K.is_sound K.holds (Fills table.now.enrolled pairs.now) store.old store.new }
 {
     let [pair, more @ ..] = pairs else {
         return Ok(());
@@ -231,6 +238,7 @@ pub fn refill<K: Keep>(store: &mut K, table: &Kept, reserved: &[Pair]) -> Result
     ensures all { OnOk result (Keeps table.now (K.kept store.new)) }
     ensures reserved { OnOk result (Reserves reserved.now table.now (K.kept store.new)) }
     ensures block { K.block store.new ≡ K.block store.old }
+    ensures only { PutsOnly K.is_up K.is_sound K.holds (Fills table.now.enrolled reserved.now) store.old store.new }
 {
     let kept = store.read()?;
     enrol_all(store, &kept, table.enrolled())?;

@@ -1,15 +1,16 @@
 //! What must have been seen before a new luminaire is given the short address of one that is gone. Each thing that was
 //! seen makes a value, which the next thing asks for, and only the last one lets the address be given.
 
-ghost use Rattle.std.specs.Prelude.{◌≡◌, ℕ, true, false, IfOk};
+ghost use Rattle.std.specs.Prelude.{◌≡◌, ℕ, true, IfOk, IfErr};
 ghost use Rattle.dali_commissioning.specs.declared.census.Reply.{Reply};
-ghost use Rattle.dali_commissioning.specs.Drivers.{Talk, talk_of};
+ghost use Rattle.dali_commissioning.specs.Drivers.{talk_of};
 ghost use Rattle.dali_commissioning.specs.Census.{IsAnswered};
-ghost use Rattle.dali_commissioning.specs.Unaddressed.{asking_beside, AreLeftOver};
+ghost use Rattle.dali_commissioning.specs.declared.newcomers.Newcomers.TheVariants as new;
 ghost use Rattle.dali_replacement.specs.Come.{may_be_heard};
 ghost use Rattle.dali_replacement.specs.Standing.{AreThere, table_of, places_of};
 ghost use Rattle.dali_replacement.specs.Permit.{HasLooked, vacant_at, vacant_come, others_at, others_come};
-ghost use Rattle.dali_replacement.specs.Permit.{others_table};
+ghost use Rattle.dali_replacement.specs.Permit.{others_table, IsNotVacant, HasLookedBeside, IsNotLooked};
+ghost use Rattle.dali_replacement.specs.Permit.{IsNotLookedBeside, HasNotGiven};
 ghost use Rattle.dali_replacement.specs.Permit.{permitted_at, alone, HasGiven};
 
 use crate::come::Come;
@@ -63,6 +64,8 @@ impl Vacant {
             × (may_be_heard come heard ≡ true)) }
         ensures short { IfOk result (λ vacant. vacant_at vacant ≡ short) }
         ensures come { IfOk result (λ vacant. vacant_come vacant ≡ come) }
+        ensures failed { IfErr result (λ fault. IsNotVacant short come fault
+            (talk_of R.remaining W.contents driver.old) (talk_of R.remaining W.contents driver.new)) }
     {
         match ask(driver, short) {
             Ok(reply) => {
@@ -128,9 +131,12 @@ impl OthersThere {
         &self,
         driver: &mut DriverLink<R, W>,
     ) -> Result<Permit, ReplaceFault>
-        ensures seen { IfOk result (λ _. HasLooked (others_come self.now) (talk_of R.remaining W.contents driver.old)
-            (talk_of R.remaining W.contents driver.new)) }
+        ensures seen { IfOk result (λ _. HasLooked (others_at self.now) (others_table self.now) (others_come self.now)
+            (talk_of R.remaining W.contents driver.old) (talk_of R.remaining W.contents driver.new)) }
         ensures short { IfOk result (λ permit. permitted_at permit ≡ others_at self.now) }
+        ensures failed { IfErr result (λ fault. IsNotLooked (others_at self.now) (others_table self.now)
+            (others_come self.now) fault (talk_of R.remaining W.contents driver.old)
+            (talk_of R.remaining W.contents driver.new)) }
     {
         let short = self.short;
         match self.come {
@@ -146,9 +152,11 @@ fn look_beside<R: Read, W: Write>(
     short: Short,
     table: &Kept,
 ) -> Result<Permit, ReplaceFault>
-    ensures seen { IfOk result (λ _. (random : ℕ) × (at : Talk)
-        × AreLeftOver (asking_beside random) false at (talk_of R.remaining W.contents driver.new)) }
+    ensures seen { IfOk result (λ _. (random : ℕ) × HasLookedBeside short table.now (new.One random)
+        (talk_of R.remaining W.contents driver.old) (talk_of R.remaining W.contents driver.new)) }
     ensures short { IfOk result (λ permit. permitted_at permit ≡ short) }
+    ensures failed { IfErr result (λ fault. IsNotLookedBeside short table.now fault
+        (talk_of R.remaining W.contents driver.old) (talk_of R.remaining W.contents driver.new)) }
 {
     let mut store = MemoryKeep::new(block_of(short));
     if let Err(error) = fill(&mut store, table) {
@@ -181,8 +189,11 @@ impl Permit {
         watch: &mut P,
         table: &Kept,
     ) -> Result<PassEnd, CommissionFault>
-        ensures { IfOk result (HasGiven K.is_up K.is_sound K.holds K.kept (K.block store.old)
+        ensures given { IfOk result (HasGiven K.is_up K.is_sound K.holds K.kept (K.block store.old)
             (permitted_at self.now) table.now store.new
+            (talk_of R.remaining W.contents driver.old) (talk_of R.remaining W.contents driver.new)) }
+        ensures failed { IfErr result (λ reason. HasNotGiven K.is_up K.is_sound K.holds K.kept (K.block store.old)
+            (permitted_at self.now) table.now reason store.new
             (talk_of R.remaining W.contents driver.old) (talk_of R.remaining W.contents driver.new)) }
     {
         match store.read() {

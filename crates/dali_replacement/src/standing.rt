@@ -1,9 +1,9 @@
 //! Where the gear of a table stand, each of which was asked.
 
-ghost use Rattle.std.specs.Prelude.{◌≡◌, ◌+◌, ◌≤◌, ◌↔◌, length, List, [], IsTrue, IfOk};
+ghost use Rattle.std.specs.Prelude.{◌≡◌, ◌+◌, ◌≤◌, ◌↔◌, length, List, [], IsTrue, IfOk, IfErr};
 ghost use Rattle.dali_script.specs.Records.{Has};
 ghost use Rattle.dali_commissioning.specs.declared.census.Reply.{Reply};
-ghost use Rattle.dali_commissioning.specs.Drivers.{talk_of};
+ghost use Rattle.dali_commissioning.specs.Drivers.{talk_of, IsCut};
 ghost use Rattle.dali_commissioning.specs.Places.{places};
 ghost use Rattle.dali_replacement.specs.Standing.{IsHeard, AreHeard, AreThere, table_of, places_of};
 
@@ -28,8 +28,9 @@ fn hear<R: Read, W: Write>(
     table: &Kept,
     short: Short,
 ) -> Result<Reply, CommissionFault>
-    ensures { IfOk result (λ reply. IsHeard table.now short reply
+    ensures heard { IfOk result (λ reply. IsHeard table.now short reply
         (talk_of R.remaining W.contents driver.old) (talk_of R.remaining W.contents driver.new)) }
+    ensures failed { IfErr result (λ reason. IsCut reason (talk_of R.remaining W.contents driver.new)) }
 {
     match random_at(table.enrolled(), short) {
         Some(_) => ask(driver, short),
@@ -46,6 +47,7 @@ fn hear_all<R: Read, W: Write>(
     ensures all { IfOk result (λ replies. length replies.items ≡ 64) }
     ensures heard { IfOk result (λ replies. AreHeard table.now 0 replies.items
         (talk_of R.remaining W.contents driver.old) (talk_of R.remaining W.contents driver.new)) }
+    ensures failed { IfErr result (λ reason. IsCut reason (talk_of R.remaining W.contents driver.new)) }
 {
     let mut replies = ArrayVec::new();
     for number in 0..64u8 {
@@ -92,6 +94,7 @@ impl Standing {
             × AreHeard table 0 replies
             (talk_of R.remaining W.contents driver.old) (talk_of R.remaining W.contents driver.new)
             × (places_of standing ≡ places table [] replies)) }
+        ensures failed { IfErr result (λ reason. IsCut reason (talk_of R.remaining W.contents driver.new)) }
     {
         let replies = hear_all(driver, &table)?;
         let places = places(&table, &[], &replies);

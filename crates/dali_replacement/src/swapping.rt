@@ -1,11 +1,13 @@
 //! A swap of files of records, its journal, and the names of what lies beside a file.
 
-ghost use Rattle.std.specs.Prelude.{◌≡◌, ◌≤◌, ◌++◌, ◌↔◌, IsOk, IfOk, IfSome, OnOk, IsTrue, codes, decimal, length, min};
-ghost use Rattle.std.specs.Prelude.{map, string_bytes, vec_len};
+ghost use Rattle.std.specs.Prelude.{◌≡◌, ◌≤◌, ◌<◌, ◌^◌, ◌↔◌, ℕ, List, ◌∷◌, ◌++◌, true, IsTrue, IsOk, IfOk, OnOk};
+ghost use Rattle.std.specs.Prelude.{IsSomeAnd, MatchOption, codes, decimal, length, map, min, string_bytes, vec_len};
 ghost use Rattle.dali_script.specs.Records.{Has};
 ghost use Rattle.dali_replacement.specs.Permit.{confirmed_at, confirmed_random, confirmed_table};
 ghost use Rattle.dali_replacement.specs.Tables.{IsComplete, IsGathered};
 ghost use Rattle.dali_replacement.specs.Swapping.{address_of, number_of, names_of, texts_of, lines_of, swap_text};
+ghost use Rattle.dali_replacement.specs.Swapping.{first_line, numbers_line, IsWithout, AreWithout, IsReadable};
+ghost use Rattle.dali_replacement.specs.declared.swapping.Swap.{Swap};
 
 use crate::confirmed::Confirmed;
 use crate::refusal::ReplaceRefusal;
@@ -82,33 +84,80 @@ fn put_lines(text: &mut String, names: &[String]) -> Result<(), AllocError>
     put_lines(text, more)
 }
 
-/// The names that stand on lines of their own.
-fn names_in(alloc: Global, text: &str) -> Result<Option<Vec<String>>, AllocError> {
-    let mut names = Vec::new(alloc);
-    let mut rest = text;
-    for _ in 0..MOST_FILES {
-        let Some((name, more)) = rest.split_once("\n") else {
-            break;
-        };
-        names.push(String::from_str(alloc, name)?)?;
-        rest = more;
+/// The first line of a text, and what stands behind it.
+fn line_in(text: &str) -> Option<(&str, &str)>
+    ensures { (line rest : List ℕ) → IsWithout 10 line → text.now ≡ line ++ 10 ∷ rest
+        → IsSomeAnd result (λ x. (x.0.now ≡ line) × (x.1.now ≡ rest)) }
+{
+    text.split_once('\n')
+}
+
+/// Adds the names that stand on lines of their own, so many at the most, and answers whether nothing else stands there.
+fn push_names(
+    alloc: Global,
+    names: &mut Vec<String>,
+    text: &str,
+    most: usize,
+) -> Result<bool, AllocError>
+    ensures { IfOk result (λ are. (lines : List (List ℕ)) → AreWithout 10 lines → length lines ≤ most
+        → text.now ≡ lines_of lines
+        → (are ≡ true) × (map string_bytes names.new.items ≡ map string_bytes names.old.items ++ lines)) }
+{
+    if text.is_empty() {
+        return Ok(true);
     }
-    if rest.is_empty() && !names.is_empty() {
+    if most == 0 {
+        return Ok(false);
+    }
+    let Some((name, more)) = line_in(text) else {
+        return Ok(false);
+    };
+    names.push(String::from_str(alloc, name)?)?;
+    push_names(alloc, names, more, most - 1)
+}
+
+/// The names that stand on lines of their own, one at least.
+fn names_in(alloc: Global, text: &str) -> Result<Option<Vec<String>>, AllocError>
+    ensures { IfOk result (λ names. (lines : List (List ℕ)) → AreWithout 10 lines → 0 < length lines
+        → length lines ≤ 64 → text.now ≡ lines_of lines
+        → IsSomeAnd names (λ names. map string_bytes names.items ≡ lines)) }
+{
+    let mut names = Vec::new(alloc);
+    if push_names(alloc, &mut names, text, MOST_FILES)? && !names.is_empty() {
         Ok(Some(names))
     } else {
         Ok(None)
     }
 }
 
+/// A short address and a number, with a space between them.
+fn numbers_of(numbers: &str) -> Option<(Short, u32)>
+    ensures { (a n : ℕ) → a < 64 → n < 2 ^ 32 → numbers.now ≡ numbers_line a n
+        → IsSomeAnd result (λ x. (x.0 ≡ a) × (x.1 ≡ n)) }
+{
+    let (short, number) = numbers.split_once(' ')?;
+    Some((Short::of(short.parse().ok()?)?, number.parse().ok()?))
+}
+
+fn is_head(line: &str) -> bool
+    ensures { IsTrue result ↔ (line.now ≡ first_line) }
+{
+    line == HEAD
+}
+
 /// The numbers of a journal, and what stands behind them.
-fn numbers_in(text: &str) -> Option<(Short, u32, &str)> {
-    let (head, rest) = text.split_once("\n")?;
-    if head != HEAD {
+fn numbers_in(text: &str) -> Option<(Short, u32, &str)>
+    ensures { (a n : ℕ) (rest : List ℕ) → a < 64 → n < 2 ^ 32
+        → text.now ≡ first_line ++ 10 ∷ (numbers_line a n ++ 10 ∷ rest)
+        → IsSomeAnd result (λ x. (x.0 ≡ a) × (x.1 ≡ n) × (x.2.now ≡ rest)) }
+{
+    let (head, rest) = line_in(text)?;
+    if !is_head(head) {
         return None;
     }
-    let (numbers, names) = rest.split_once("\n")?;
-    let (short, number) = numbers.split_once(" ")?;
-    Some((Short::of(short.parse().ok()?)?, number.parse().ok()?, names))
+    let (numbers, names) = line_in(rest)?;
+    let (short, number) = numbers_of(numbers)?;
+    Some((short, number, names))
 }
 
 impl Swap {
@@ -165,21 +214,23 @@ impl Swap {
 
     /// The swap that a journal is of, whose text is this one, byte by byte. None if it is none.
     pub fn read(alloc: Global, text: &str) -> Result<Option<Swap>, AllocError>
-        ensures { IfOk result (λ read. IfSome read (λ swap. swap_text swap ≡ text.now)) }
+        ensures { IfOk result (λ read. MatchOption read
+            ((swap : Swap) → IsReadable swap → swap_text swap ≡ text.now → ⊥)
+            (λ swap. swap_text swap ≡ text.now)) }
     {
-        let Some((short, number, names)) = numbers_in(text) else {
+        let Some(head) = numbers_in(text) else {
             return Ok(None);
         };
-        let Some(names) = names_in(alloc, names)? else {
+        let Some(names) = names_in(alloc, head.2)? else {
             return Ok(None);
         };
         let swap = Swap {
-            short,
-            number,
+            short: head.0,
+            number: head.1,
             names,
         };
         let own = swap.text(alloc)?;
-        if own.as_str() == text {
+        if is_text(&own, text) {
             Ok(Some(swap))
         } else {
             Ok(None)

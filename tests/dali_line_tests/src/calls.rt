@@ -251,6 +251,7 @@ fn both_do<B: FullBus, R: Abort + Wait>(
         Step::Ready(wanted) => same(rt, &bus.ready(rt, driver), &wanted),
         Step::Stops => {
             bus.stop(rt);
+            assert!(rt; bus.is_stopped(rt));
             assert!(rt; !bus.wait(rt, other));
         }
         Step::Down

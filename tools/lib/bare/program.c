@@ -51,12 +51,13 @@ struct course {
     struct dali_records records PLACED;
     struct dali_record addition PLACED;
     struct dali_table table PLACED;
+    struct dali_passes passes PLACED;
     struct dali_levels levels PLACED;
     struct dali_receiver receiver PLACED;
     struct dali_told frame PLACED;
     struct dali_window window PLACED;
     struct dali_heard heard PLACED;
-    uint8_t due;
+    uint8_t due, next;
 };
 
 /* What a call may take: the registers of its first four arguments. */
@@ -158,6 +159,19 @@ static int ready_records_new(struct course *it, struct arguments *arguments)
     return 1;
 }
 
+static int ready_passes_new(struct course *it, struct arguments *arguments)
+{
+    *arguments = (struct arguments){{AT(it->passes)}};
+    return 1;
+}
+
+static int ready_passes_step(struct course *it, struct arguments *arguments)
+{
+    dali_passes_new(&it->passes);
+    *arguments = (struct arguments){{AT(it->passes), it->told.input, AT(it->order), AT(it->next)}};
+    return it->order.kind != DALI_NOTHING_ORDERED;
+}
+
 /* The calls at the pins, which are measured by themselves. */
 
 static int ready_levels_new(struct course *it, struct arguments *arguments)
@@ -215,6 +229,8 @@ static struct call calls[] = {
     CALL(dali_machine_new, ready_machine_new),
     CALL(dali_records_add, ready_records_add),
     CALL(dali_records_new, ready_records_new),
+    CALL(dali_passes_new, ready_passes_new),
+    CALL(dali_passes_step, ready_passes_step),
     CALL(dali_levels_new, ready_levels_new),
     CALL(dali_window_new, ready_window_new),
     CALL(dali_receiver_new, ready_receiver_new),
@@ -226,9 +242,9 @@ static struct call calls[] = {
 
 #define CALLS (sizeof calls / sizeof *calls)
 /* The first of those at the pins, of those that take a time, and of those that take an edge. */
-#define AT_PINS 10
-#define TAKE_TIME 13
-#define TAKE_EDGE 15
+#define AT_PINS 12
+#define TAKE_TIME 15
+#define TAKE_EDGE 17
 /* How often each trouble comes, per million frames, and when a machine that does not end is left. */
 #ifndef TROUBLED
 #define TROUBLED 0

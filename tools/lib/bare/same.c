@@ -34,7 +34,8 @@ static union {
         struct dali_window window;
         struct dali_heard heard;
         struct dali_levels levels;
-        uint8_t due;
+        struct dali_passes passes;
+        uint8_t due, next;
     } is;
     uint32_t words[900];
 } all;
@@ -43,8 +44,8 @@ static struct bus bus;
 static uint64_t chance;
 static uint32_t sum = UINT32_C(0x811C9DC5);
 static uint32_t calls, frames, lives, commits[DALI_RELEASE + 1];
-/* Of each status, purpose of a transaction, end and fault whether it came: a bit each. */
-static uint32_t statuses, purposes, ends, faults;
+/* Of each status, purpose of a transaction, end, fault and thing to be done next whether it came: a bit each. */
+static uint32_t statuses, purposes, ends, faults, nexts;
 
 static void mix(uint32_t word)
 {
@@ -352,6 +353,25 @@ static void try_pins(void)
     }
 }
 
+/* The runs of a controller by any orders, most of which end a run that found all gear. */
+static void try_passes(void)
+{
+    called(dali_passes_new(&all.is.passes));
+    for (int times = 0; times < 40; times++) {
+        uint32_t is_end = chance_below(&chance, 4);
+
+        memset(&all.is.other, 0, sizeof all.is.other);
+        all.is.other.kind = is_end ? DALI_DONE : (uint8_t)chance_below(&chance, DALI_HALT + 2);
+        all.is.other.reason = is_end > 1 ? DALI_ALL_FOUND : (uint8_t)chance_below(&chance, DALI_GAVE_UP + 2);
+        all.is.other.priority = (uint8_t)chance_below(&chance, 7);
+        all.is.other.record.kind = (uint8_t)chance_below(&chance, DALI_RELEASE + 2);
+        if (called(dali_passes_step(&all.is.passes, (uint8_t)chance_below(&chance, 10), &all.is.other, &all.is.next)) == DALI_OK)
+            nexts |= UINT32_C(1) << all.is.next;
+        if (chance_below(&chance, 20) == 0)
+            change_byte(&all.is.passes, sizeof all.is.passes);
+    }
+}
+
 static void try_levels(void)
 {
     struct levels_seen seen;
@@ -360,8 +380,10 @@ static void try_levels(void)
     must(!is_wrong, is_wrong);
     mix(seen.sum);
     tell("levels", seen.bytes);
-    for (uint32_t times = 0; times < LEVELS; times++)
+    for (uint32_t times = 0; times < LEVELS; times++) {
         try_pins();
+        try_passes();
+    }
     tell("pins", sum);
 }
 
@@ -389,6 +411,7 @@ int main(void)
     tell("purposes", purposes);
     tell("ends", ends);
     tell("faults", faults);
+    tell("nexts", nexts);
 #ifdef REACHED
     {
         extern const uint8_t reached[REACHED];

@@ -9,4 +9,4 @@ returns g c =
     g.F.Stores.opens g.R.Read.remaining g.W.Write.contents _ _ _ _ _ _ _ c.read_all.new.tables.items _ _ c.lend-done.result c.or_say.result
     c.new-tables.ensures.items c.in_ok-read_all.ensures
     (subst (λ ts. reserved_in c.args.wanted.now.block ts ≡ None) c.deref.ensures.value (sym c.reserved_in.ensures ∙ c.in_default.is))
-    c.lend-done.ensures c.or_say.ensures.same
+    c.lend-done.ensures.lent c.or_say.ensures.same

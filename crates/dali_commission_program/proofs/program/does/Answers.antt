@@ -10,7 +10,7 @@ returns-in-Run g c =
     g.F.Stores.opens g.R.Read.remaining g.W.Write.contents (g.S.Voice.told c.args.system.now) (g.S.Writes.wrote c.args.system.now)
     c.args.asked.now.records.items _ c.as_slice-others.result.now c.args.asked.now.others.items c.args.stores.now c.lend.new.stores _ _ c.lend.result
     c.args.asked.now.task c.in-Run.setup c.in-Run.is
-    (c.only.ensures ∙ ap only c.deref-in-Run.ensures.value) c.as_slice-others.ensures.value c.lend.ensures
+    (c.only.ensures ∙ ap only c.deref-in-Run.ensures.value) c.as_slice-others.ensures.value c.lend.ensures.lent
 
 pub returns-in-Check : goal.returns-in-Check
 returns-in-Check g c =

@@ -6,7 +6,7 @@ pub returns-in_ok-text-in-Announce : goal.returns-in_ok-text-in-Announce
 returns-in_ok-text-in-Announce g c =
     then _ _ _ (λ done. announced g.F.Stores.made c.args.swap.now c.args.step c.in-Announce.number _ _ _ c.args.stores.now c.write.new.self c.in-Announce.is
     c.in_ok-name_at-in-Announce.ensures
-    (c.deref.ensures ∙ c.in_ok-journal-in-Announce.ensures) done) c.write.ensures.made
+    (c.deref.ensures ∙ c.in_ok-journal-in-Announce.ensures) (c.deref-in-Announce.ensures ∙ c.in_ok-text-in-Announce.ensures) done) c.write.ensures.made
 
 pub returns-in_ok-kept_of-in-SetAside : goal.returns-in_ok-kept_of-in-SetAside
 returns-in_ok-kept_of-in-SetAside g c =

@@ -3,8 +3,8 @@ use Rattle.dali_script.specs.declared.sending.Half.TheVariants.{Whole}
 use Rattle.dali_commissioning.{specs.Drivers.writer_of, specs.Lines.put_text, proofs.Steps.line_told}
 use Rattle.dali_commissioning.proofs.lighting.light.Goals as goal
 
-pub returns : goal.returns
-returns g c = (
+pub returns-clause-put : goal.returns-clause-put
+returns-clause-put g c = (
   c.in_ok-told.told,
   record {
     wrote = subst (λ f. Appends (g.W.Write.contents (writer_of c.args.driver.now))

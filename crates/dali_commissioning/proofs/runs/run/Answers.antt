@@ -7,12 +7,12 @@ pub returns-in-Err-clause-left : goal.returns-in-Err-clause-left
 returns-in-Err-clause-left g c = same_grows g.K.Keep.is_up g.K.Keep.is_sound g.K.Keep.holds _ _ c.read.ensures.same
 
 pub returns-in-Err-clause-left_rules : goal.returns-in-Err-clause-left_rules
-returns-in-Err-clause-left_rules g c = unread_run g.K.Keep.is_up g.K.Keep.is_sound g.K.Keep.holds _ _ _ _ _ c.read.ensures.same
+returns-in-Err-clause-left_rules g c = unread_run g.K.Keep.is_up g.K.Keep.is_sound g.K.Keep.holds _ _ _ _ _ _ c.read.ensures.same
 
 pub returns-in-Err-conduct-clause-left_rules : goal.returns-in-Err-conduct-clause-left_rules
 returns-in-Err-conduct-clause-left_rules g c =
     left_run g.K.Keep.is_up g.K.Keep.is_sound g.K.Keep.holds g.K.Keep.kept g.K.Keep.must_read g.K.Keep.block g.met.K.Keep.replay
-    _ _ _ _ _ _ _ c.in-Ok.kept c.in-Ok.ensures.answer c.in-Ok.ensures.is_read c.read.ensures.block
+    _ _ _ _ _ _ _ _ c.in-Ok.kept c.in-Ok.ensures.answer c.in-Ok.ensures.is_read c.read.ensures.block
     (record { up = c.read.ensures.up; sound = c.read.ensures.sound }) c.conduct.ensures.stays c.read.ensures.same c.new-machine.ensures
     c.in-Err-conduct.ensures.left_rules
 

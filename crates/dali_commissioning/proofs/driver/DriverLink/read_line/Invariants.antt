@@ -1,6 +1,6 @@
 use Rattle.std.proofs.Common.{◌≡◌}
 use Rattle.std.specs.Io.KnownBytes.{Consumes}
-use Rattle.dali_commissioning.specs.Drivers.{reader_of, writer_of, lines_of, next_line, line_of, has_heard}
+use Rattle.dali_commissioning.specs.Drivers.{reader_of, writer_of, lines_of, next_line, line_of, has_heard, fault_of}
 use Rattle.dali_commissioning.proofs.driver.DriverLink.read_line.Given as goal
 
 abbrev pub invariant-loop : goal.invariant-loop
@@ -9,4 +9,5 @@ invariant-loop g l = record {
   writer : writer_of l.self ≡ writer_of l.fn.self;
   lines : lines_of l.self ≡ next_line (lines_of l.fn.self);
   heard : has_heard l.self ≡ has_heard l.fn.self;
+  fault : fault_of l.self ≡ fault_of l.fn.self;
 }

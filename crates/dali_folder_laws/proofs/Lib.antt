@@ -1,0 +1,8 @@
+mod Times
+mod Parts
+mod Stopped
+mod Looked
+mod Over
+mod Truths
+mod Asides
+mod Apart

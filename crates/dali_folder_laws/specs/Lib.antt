@@ -1,0 +1,4 @@
+pub mod Asides
+pub mod Folder
+pub mod Moments
+pub mod Stops

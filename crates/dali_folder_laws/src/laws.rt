@@ -1,0 +1,75 @@
+//! What a stop leaves of an exchange of files, and of files that are put aside. Programs don't call these.
+
+ghost use Rattle.std.specs.declared.alloc.Global.{Global};
+ghost use Rattle.std.specs.declared.string.String.{String};
+ghost use Rattle.std.specs.Prelude.{◌≡◌, ◌≤◌, ◌<◌, ◌⊎◌, ℕ, ◌+◌, ◌*◌, Bool, true, List, Some, None, length};
+ghost use Rattle.dali_replacement.specs.declared.swap.Step.{Step};
+ghost use Rattle.dali_replacement.specs.declared.swap.Step.TheVariants.{Forget};
+ghost use Rattle.dali_replacement.specs.declared.swapping.Swap.{Swap};
+ghost use Rattle.dali_replacement.specs.Swap.{step_after};
+ghost use Rattle.dali_replacement.specs.Swapping.{names_of};
+ghost use Rattle.dali_commission_stores.specs.Seen.{IsMoment};
+ghost use Rattle.dali_commission_stores.specs.Settling.{IsDone, count_of};
+ghost use Rattle.dali_folder_laws.specs.Asides.{PutsAside, PutAsideOften, AreAway, HasStill, HasBehind};
+ghost use Rattle.dali_folder_laws.specs.Folder.{Folder, IsCalled};
+ghost use Rattle.dali_folder_laws.specs.Moments.{Itself, Journal, IsPart, Differ, MayBegin, Files, IsBefore, IsBehind};
+ghost use Rattle.dali_folder_laws.specs.Moments.{IsAt, IsAtSome, AllOld, AllNew, AllAnnounced};
+ghost use Rattle.dali_folder_laws.specs.Stops.{Program, starting, Sees, Exchanges, Settles, SettleOften, ended_as};
+
+/// AN EXCHANGE OVER A CRASH. An exchange is begun and stopped at any of its calls; so are any programs that settle it,
+/// one after the other. Then one settles it and is not stopped: each new file has taken the place of its old one, which
+/// is kept; or all is as before the exchange. No journal lies there any more.
+pub fn an_exchange_ends_over_every_stop()
+    ensures { (swap : Swap) (files : Files) (often : ℕ) (x z : Folder) (y w : Program) (done : Bool)
+        → MayBegin swap → IsBefore swap files x
+        → Exchanges swap x y → SettleOften swap often y.folder z → Settles swap z w done → w.runs ≡ true
+        → ended_as swap files done w.folder }
+{}
+
+/// Whenever it is stopped, the folder is at a moment of the exchange. One that is not stopped ends it (`ends`).
+pub fn a_stop_leaves_an_exchange_at_a_moment()
+    ensures begun { (swap : Swap) (files : Files) (x : Folder) (y : Program) → MayBegin swap → IsBefore swap files x
+        → Exchanges swap x y → IsAtSome swap files y.folder }
+    ensures ends { (swap : Swap) (files : Files) (x : Folder) (y : Program) → MayBegin swap → IsBefore swap files x
+        → Exchanges swap x y → y.runs ≡ true → IsBehind swap files y.folder }
+    ensures settled { (swap : Swap) (files : Files) (often : ℕ) (x y : Folder) → MayBegin swap → IsAtSome swap files x
+        → SettleOften swap often x y → IsAtSome swap files y }
+{}
+
+/// At no moment is a file missing, unless a journal lies beside each; and if none lies beside one, each file is old, or
+/// each is new.
+pub fn no_file_is_missing_and_none_has_two_truths()
+    ensures missing { (swap : Swap) (files : Files) (i : ℕ) (at : List ℕ) (x : Folder) → IsAtSome swap files x
+        → i < count_of swap → IsPart swap i Itself at → x at ≡ None → AllAnnounced swap x }
+    ensures truth { (swap : Swap) (files : Files) (i : ℕ) (at : List ℕ) (x : Folder) → IsAtSome swap files x
+        → i < count_of swap → IsPart swap i Journal at → x at ≡ None → AllOld swap files x ⊎ AllNew swap files x }
+{}
+
+/// An exchange may begin (`MayBegin`) if no two files have one name, and none has that of another one's new file. Names
+/// beside them are apart then: before an exchange the files are there, and no journal and no kept file.
+pub fn an_exchange_of_names_that_differ_may_begin()
+    ensures { (swap : Swap) (files : Files) (x : Folder) → length (names_of swap) ≤ 64 → Differ swap
+        → IsBefore swap files x → MayBegin swap }
+{}
+
+/// The calls of a step lead a folder to the next moment, or back; and what is looked at tells at which one it is.
+pub fn a_folder_goes_from_moment_to_moment()
+    ensures on { (swap : Swap) (files : Files) (m : ℕ) (s : Step) (x y : Folder) → MayBegin swap → IsAt swap files m x
+        → step_after (count_of swap) m ≡ Some s → IsDone IsCalled swap s x y → IsAt swap files (m + 1) y }
+    ensures back { (swap : Swap) (files : Files) (m : ℕ) (x y : Folder) → MayBegin swap → m < count_of swap
+        → IsAt swap files (m + 1) x → IsDone IsCalled swap (Forget m) x y → IsAt swap files m y }
+    ensures found { (swap : Swap) (files : Files) (m l : ℕ) (x : Folder) → MayBegin swap → m ≤ 4 * count_of swap
+        → IsAt swap files m x → IsMoment Sees swap (starting x) l → l ≡ m }
+{}
+
+/// FILES THAT ARE PUT ASIDE OVER A CRASH. Whenever it is stopped, each name has what it had; or it has nothing, and
+/// what it had is kept. If it is not stopped, each file that was there and not empty is put aside (`away`): so a later
+/// call puts aside what an earlier one has left, and after any number of them no file is lost (`often`).
+pub fn what_is_put_aside_is_not_lost()
+    ensures kept { (records names : List (String Global)) (number : ℕ) (x : Folder) (y : Program) (at had : List ℕ)
+        → PutsAside records names number x y → x at ≡ Some had → HasStill number x y.folder at had }
+    ensures away { (records names : List (String Global)) (number : ℕ) (x : Folder) (y : Program)
+        → PutsAside records names number x y → y.runs ≡ true → AreAway names y.folder }
+    ensures often { (records : List (String Global)) (often : ℕ) (x y : Folder) (at had : List ℕ)
+        → PutAsideOften records often x y → x at ≡ Some had → HasBehind y at had }
+{}

@@ -1,0 +1,4 @@
+//! What an exchange of files leaves in a folder, whenever it stops.
+#![tactic(auto)]
+
+pub mod laws;

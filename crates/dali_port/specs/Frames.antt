@@ -1,0 +1,68 @@
+use Rattle.std.specs.Prelude.{ℕ, suc, ◌+◌, ◌-◌, ◌*◌, min, Bool, true, false, nat_lt, nat_le, ◌==◌}
+use Rattle.std.specs.Prelude.{slice_index_or, if◌then◌else◌}
+use Rattle.dali_wire.specs.Levels.{sent_levels, forward_bits}
+use Rattle.dali_port.specs.declared.orders.Order.{Order}
+use Rattle.dali_port.specs.declared.state.Sending.{Sending}
+use Rattle.dali_port.specs.declared.frames.Course.{Course}
+use Rattle.dali_port.specs.declared.frames.Course.TheVariants.{Goes, Destroyed, Whole}
+use Rattle.dali_port.specs.Times.{half_bit, apart}
+
+-- A FRAME THAT IS BEING SENT: the levels of `Sender`, each for a half bit. The first is low.
+abbrev pub begun_at : Order → ℕ → Sending
+begun_at order now = record {
+  order = order;
+  levels = sent_levels (forward_bits order.frame);
+  half = 0;
+  since = now;
+  agreed = now;
+  driven = now;
+}
+
+-- the level of a half bit; once the stop condition is over, high
+abbrev pub level_at : Sending → ℕ → Bool
+level_at s half = if nat_lt half 40 then slice_index_or s.levels half false else false
+
+abbrev pub same : Bool → Bool → Bool
+same true true = true
+same false false = true
+same true false = false
+same false true = false
+
+-- COMPARING: when the bus last had the level that is driven, if both stayed as they are until now.
+-- If that was longer ago than they may differ, the frame is destroyed.
+abbrev pub agreed_by : Bool → Bool → ℕ → ℕ → ℕ
+agreed_by driven low agreed now = if same driven low then now else agreed
+
+abbrev pub compared_by : Sending → ℕ → ℕ → Course
+compared_by s agreed now =
+    if nat_lt apart (now - agreed) then Destroyed else Goes (record s { agreed = agreed })
+
+abbrev pub compared : Sending → Bool → ℕ → Course
+compared s low now = compared_by s (agreed_by (level_at s s.half) low s.agreed now) now
+
+-- THE NEXT HALF BIT; if it has another level, this is an edge
+abbrev pub next_of : ℕ → ℕ
+next_of half = min (half + 1) 255
+
+abbrev pub turned : Sending → ℕ → Sending
+turned s now = record s {
+  half = next_of s.half;
+  since = now;
+  driven = if same (level_at s s.half) (level_at s (next_of s.half)) then s.driven else now;
+}
+
+-- THE COURSE OF A FRAME, if the bus kept its level until now: within a half bit; beyond it, into
+-- the next one, or out of the stop condition. A port that was not called in all of the next half
+-- bit drove no edge at its end, and the frame is destroyed.
+abbrev pub sent_beyond : Course → ℕ → ℕ → Bool → ℕ → Course
+sent_beyond (Goes s) turn lasted low now =
+    if nat_le 40 (s.half + 1) then Whole
+    else (if nat_lt (2 * half_bit) lasted then Destroyed else compared (turned s turn) low now)
+sent_beyond Destroyed turn lasted low now = Destroyed
+sent_beyond Whole turn lasted low now = Destroyed
+
+abbrev pub sent_until : Sending → Bool → ℕ → Course
+sent_until s low now =
+    if nat_lt (now - s.since) half_bit then compared s low now
+    else sent_beyond
+    (compared s low (s.since + half_bit)) (s.since + half_bit) (now - s.since) low now

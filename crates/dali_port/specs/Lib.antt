@@ -1,0 +1,5 @@
+pub mod Times
+pub mod Orders
+pub mod Frames
+pub mod Ports
+pub mod Calls
