@@ -4,9 +4,9 @@ use Rattle.dali_replacement.specs.declared.{swap.Step.TheVariants.SetAside, swap
 use Rattle.dali_commission_stores.specs.Calls.{Call, Wrote, Renamed, Likened, Removed}
 use Rattle.dali_commission_stores.specs.Settling.{new_at, journal_at, kept_at, IsNamed, IsDone, count_of, GoesOn, GoesBack}
 
-pub any : {E : Type 0} (r : Result (Unit {0}) E) (P : Type 0) → P → OnOk r P
-any (Ok done) P h = h
-any (Err e) P h = tt
+pub then : {E : Type 0} (r : Result (Unit {0}) E) (P Q : Type 0) → (P → Q) → OnOk r P → OnOk r Q
+then (Ok done) P Q so h = so h
+then (Err e) P Q so h = tt
 
 -- a step is done by its calls
 pub announced : {F : Type 0} (made : F → F → Call → Type 0) (swap : Swap) (step : Step) (i : ℕ) (name text at : List ℕ) (x y : F)

@@ -1,6 +1,6 @@
 //! Where records are kept: by a name, as in a file.
 
-ghost use Rattle.std.specs.Prelude.{◌≡◌, List, Result, IfOk, OnOk, option_map, string_bytes};
+ghost use Rattle.std.specs.Prelude.{◌≡◌, List, Result, IfOk, OnOk, OnErr, option_map, string_bytes};
 
 use crate::records::Seen;
 use dali_commission_said::Failure;
@@ -91,6 +91,9 @@ pub trait Stores: Sized {
 
     ghost made: { Self → Self → Call → Type 0 };
 
+    /// A call that fails has done a part of what it does.
+    ghost began: { Self → Self → Call → Type 0 };
+
     ghost saw: { Self → Look → Type 0 };
 
     /// What was seen is opened so.
@@ -148,12 +151,14 @@ pub trait Stores: Sized {
     /// Writes a text under this name. A stop leaves none or all of it; once it is written no stop takes it away, nor
     /// what was done in its folder before.
     fn write(&mut self, alloc: Global, name: &str, text: &str) -> Result<(), Failure>
-        ensures { made self.old self.new (Wrote name.now text.now) };
+        ensures made { OnOk result (made self.old self.new (Wrote name.now text.now)) }
+        ensures began { OnErr result (began self.old self.new (Wrote name.now text.now)) };
 
     /// Gives what has one name another one in the same folder, where nothing else is left then. A stop leaves it under
     /// one of the two; once it has the other one, no stop takes that away.
     fn rename(&mut self, alloc: Global, from: &str, to: &str) -> Result<(), Failure>
-        ensures { made self.old self.new (Renamed from.now to.now) };
+        ensures made { OnOk result (made self.old self.new (Renamed from.now to.now)) }
+        ensures began { OnErr result (began self.old self.new (Renamed from.now to.now)) };
 
     /// Copies to `name` who may read and write `to`, as far as the system allows that.
     fn liken(&mut self, name: &str, to: &str)
@@ -161,5 +166,6 @@ pub trait Stores: Sized {
 
     /// Removes what has this name, if it is there. No stop brings it back.
     fn remove(&mut self, alloc: Global, name: &str) -> Result<(), Failure>
-        ensures { made self.old self.new (Removed name.now) };
+        ensures made { OnOk result (made self.old self.new (Removed name.now)) }
+        ensures began { OnErr result (began self.old self.new (Removed name.now)) };
 }

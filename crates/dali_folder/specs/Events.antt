@@ -1,9 +1,9 @@
 use Rattle.std.specs.Prelude.{◌≡◌, ◌⊎◌, ℕ, Bool, List, [], ◌∷◌, ◌++◌, Option, Result, Ok, Err}
 
 -- A CALL OF THE SYSTEM that changes something in folders, with the names of files there. By POSIX:
--- `open` with O_CREAT and O_TRUNC; `write` behind what the file has; `fsync` of it; `rename` from one
--- name to another; `unlink`; `fsync` of the folder in which a name lies; `chmod` of one name, as
--- another has it.
+-- `open` with O_CREAT and O_TRUNC; `write` behind what the file has; `fsync` of it; `rename` from
+-- one name to another; `unlink`; `fsync` of the folder in which a name lies; `chmod` of one name,
+-- as another has it.
 pub data Event : Type 0 where
   Creates : List ℕ → Event
   Writes : List ℕ → List ℕ → Event
@@ -40,12 +40,14 @@ AreBegun (part ∷ begun) [] = ⊥
 AreBegun (part ∷ begun) (event ∷ events) =
     ((part ≡ event) × AreBegun begun events) ⊎ ((begun ≡ []) × IsPart part event)
 
+abbrev pub HaveBegun : {F : Type 0} → (F → F → Event → Type 0) → List Event → F → F → Type 0
+HaveBegun did events x y = (begun : List Event) × AreBegun begun events × AreDone did begun x y
+
 -- ALL IS DONE; or what the result refuses has only begun
 abbrev pub AreTried : {F T E : Type 0} → (F → F → Event → Type 0) → List Event → F → F → Result T E
     → Type 0
 AreTried did events x y (Ok _) = AreDone did events x y
-AreTried did events x y (Err _) =
-    (begun : List Event) × AreBegun begun events × AreDone did begun x y
+AreTried did events x y (Err _) = HaveBegun did events x y
 
 -- A TEXT IS WRITTEN to a file of another name, which is then given the name
 abbrev pub writing : List ℕ → List ℕ → List ℕ → List Event

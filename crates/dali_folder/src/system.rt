@@ -2,8 +2,8 @@
 
 use crate::folder::Folder;
 use crate::places::folder_of;
-use std::alloc::{Alloc, Global};
-use std::fs::{Files, OpenFile};
+use std::alloc::Global;
+use std::fs::Files;
 use std::io::{ErrorKind, Write};
 use std::{fs, io};
 

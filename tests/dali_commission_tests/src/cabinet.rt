@@ -177,6 +177,8 @@ impl Stores for &Cabinet {
 
     ghost made = { λ _ _ _. Unit {0} };
 
+    ghost began = { λ _ _ _. Unit {0} };
+
     ghost saw = { λ _ _. Unit {0} };
 
     ghost opens = { λ _ _ _. Unit {0} };

@@ -1,0 +1,47 @@
+use Rattle.std.proofs.Common.{◌≡◌, inl, inr, refl, sym, ap, subst, ◌∙◌, List, [], ◌∷◌, ◌++◌, ℕ, Bor, arith}
+use Rattle.std.proofs.Common.{Bool, false, IsTrue, ◌↔◌}
+use Rattle.std.proofs.Common.{Result, Ok, Err, IfErr, IfOk, IsErr, Option, Some, None, IfSome}
+use Rattle.std.proofs.lemmas.List.{map-append}
+use Rattle.sqlite.specs.declared.error.Error.{Error}
+use Rattle.dali_reserve.specs.declared.error.KeepError.TheVariants.{NoMemory}
+use Rattle.dali_commission_said.specs.declared.failure.StoreFault.{StoreFault}
+use Rattle.dali_commission_said.specs.declared.failure.StoreFault.TheVariants.{Store}
+use Rattle.dali_commission_files.specs.Faults.{closed_fault, IsUnread, IsUnwritten, IsUnopened}
+use Rattle.dali_commission_files.specs.Logs.{IsDamaged}
+use Rattle.dali_commission_files.specs.Opened.{names_of}
+
+pub no_memory : {T : Type 0} (r : Result T StoreFault) → IfErr r (λ it. it ≡ Store NoMemory) → IfErr r IsUnread
+no_memory (Ok it) told = tt
+no_memory (Err it) told = inr (inl told)
+
+-- what SQLite says of a file that it does not open, or what the system does
+pub closed : (error : Error) (it : StoreFault) → IfSome (closed_fault error) (λ said. it ≡ said)
+    → (closed_fault error ≡ None → IsUnwritten it) → IsUnopened it
+closed error it = go (closed_fault error) refl where
+  go : (o : Option StoreFault) → closed_fault error ≡ o → IfSome o (λ said. it ≡ said) → (o ≡ None → IsUnwritten it) → IsUnopened it
+  go (Some said) e same other = inr (inr (inl (error, e ∙ ap Some (sym same))))
+  go None e same other = inr (inr (inr (other refl)))
+
+pub one_more : {C : Type 0} (xs ys : List (Bor (List ℕ) × C)) (name : Bor (List ℕ)) (c : C) → ys ≡ xs ++ (name, c) ∷ []
+    → names_of ys ≡ names_of xs ++ name.now ∷ []
+one_more xs ys name c e = ap names_of e ∙ map-append (λ it. it.0.now) xs ((name, c) ∷ [])
+
+-- a log that is said not to be damaged, by bytes that are its own
+pub whole : (b : Bool) (log own : List ℕ) → b ≡ false → (IsTrue b ↔ IsDamaged log) → own ≡ log → IsDamaged own → ⊥
+whole b log own e says same is = let so = says.1 (subst (λ l. IsDamaged l) same is) in grind (arith, e, so)
+
+-- a result that is refused, and one that is told more of
+pub not_ok : {T E : Type 0} (r : Result T E) (P : T → Type 0) → IsErr r → IfOk r P
+not_ok (Ok it) P is = absurd (grind (arith, is))
+not_ok (Err error) P is = tt
+
+pub more : {T E : Type 0} (r : Result T E) (P Q : T → Type 0) → ((it : T) → P it → Q it) → IfOk r P → IfOk r Q
+more (Ok it) P Q so h = so it h
+more (Err error) P Q so h = tt
+
+abbrev pub IsFine : {T E : Type 0} → Result T E → Type 0
+IsFine (Ok it) = Unit {0}
+IsFine (Err error) = ⊥
+
+pub not_both : {T E : Type 0} (r : Result T E) (it : T) (error : E) → r ≡ Ok it → r ≡ Err error → ⊥
+not_both r it error ok err = subst IsFine (sym ok ∙ err) tt

@@ -1,0 +1,4 @@
+pub mod Faults
+pub mod Folders
+pub mod Logs
+pub mod Opened
