@@ -19,7 +19,7 @@ frames next after m (told ∷ before) n x y (mid, at, so_far, (put, is, placed, 
     joined (frames next after m before mid x at so_far) (grown (put_more placed))
 
 round : (replies : List Reply) (x y : Talk) → IsRound replies x y → Grows x y
-round replies x y (e, at, (told, put), none, are) =
+round replies x y (e, at, (told, put), none, few, are) =
     joined (frames erasing_next erasing_told begun told e x at put) (counted (without_records all_shorts) [] 0 replies at y are)
 
 rounds : (numbers : List ℕ) (last replies : List Reply) (x y : Talk) → AreCleared numbers last replies x y → Grows x y
