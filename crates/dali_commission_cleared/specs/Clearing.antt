@@ -1,5 +1,6 @@
 use Rattle.std.specs.Prelude.{◌≡◌, ◌⊎◌, ℕ, Bool, true, false, if◌then◌else◌, List, [], ◌∷◌, Result}
-use Rattle.std.specs.Prelude.{Ok, Err, IsErr, None, not, nat_le, ◌++◌, ◌↔◌, IsTrue, string_bytes}
+use Rattle.std.specs.Prelude.{Ok, Err, IsErr, Some, None, not, nat_le, ◌++◌, ◌↔◌, IsTrue}
+use Rattle.std.specs.Prelude.{string_bytes}
 use Rattle.std.specs.List.{list_any}
 use Rattle.std.specs.declared.alloc.Global.{Global}
 use Rattle.std.specs.declared.string.String.{String}
@@ -8,14 +9,17 @@ use Rattle.dali_script.specs.declared.orders.Input.{Input}
 use Rattle.dali_script.specs.Records.{Kept, without_records}
 use Rattle.dali_commissioning.specs.declared.census.Reply.{Reply}
 use Rattle.dali_commissioning.specs.declared.verdict.Place.{Place}
+use Rattle.dali_commissioning.specs.declared.fault.CommissionFault.{CommissionFault}
+use Rattle.dali_commissioning.specs.declared.fault.CommissionFault.TheVariants as fault
 use Rattle.dali_commissioning.specs.Census.{AreCounted, is_silent}
-use Rattle.dali_commissioning.specs.Drivers.{Talk}
+use Rattle.dali_commissioning.specs.Drivers.{Talk, IsCut}
 use Rattle.dali_commissioning.specs.Places.{places}
 use Rattle.dali_commissioning.specs.Unaddressed.{AreLeftOver, asking}
 use Rattle.dali_commission_cleared.specs.declared.eraser.Eraser.{Eraser}
 use Rattle.dali_commission_said.specs.declared.failure.Failure.{Failure}
 use Rattle.dali_commission_said.specs.declared.failure.Failure.TheVariants.{NotCleared}
 use Rattle.dali_commission_said.specs.declared.failure.Failure.TheVariants.{NobodyAnswered}
+use Rattle.dali_commission_said.specs.Failures.{failure_of}
 use Rattle.dali_commission_stores.specs.Calls.{Call, Renamed, Look, AreMade}
 use Rattle.dali_commission_stores.specs.Calls as look
 use Rattle.dali_commission_cleared.specs.Erasing.{begun, erasing_next, erasing_told}
@@ -121,6 +125,53 @@ IsFollowed replies found x y =
     ((is_any replies ≡ true) × (y ≡ x))
     ⊎ ((is_any replies ≡ false) × AreLeftOver asking found x y)
 
+-- WHY A ROUND IS CUT SHORT: the talk ended by a fault, frames were lost again and again, or too
+-- many were put
+abbrev pub IsEraseCut : CommissionFault → Eraser → Talk → Talk → Type 0
+IsEraseCut (fault.Driver f) d x y = y.fault ≡ Some f
+IsEraseCut fault.StepsSpent d x y = (e : Eraser) × HaveErased d e x y
+IsEraseCut fault.QuestionLost d x y = ⊥
+IsEraseCut (fault.Store e) d x y = ⊥
+IsEraseCut fault.RunsSpent d x y = ⊥
+
+abbrev pub IsEraserLost : CommissionFault → Talk → Talk → Type 0
+IsEraserLost reason x y =
+    (e : Eraser)
+    × (reason ≡ fault.QuestionLost)
+    × HaveErased begun e x y
+    × (erasing_next e ≡ None)
+    × (nat_le 8 e.lost ≡ true)
+
+abbrev pub IsRoundCut : CommissionFault → Talk → Talk → Type 0
+IsRoundCut reason x y =
+    IsEraseCut reason begun x y
+    ⊎ (IsEraserLost reason x y
+    ⊎ ((e : Eraser)
+    × (at : Talk)
+    × HaveErased begun e x at
+    × (erasing_next e ≡ None)
+    × (nat_le 8 e.lost ≡ false)
+    × IsCut reason y))
+
+abbrev pub AreRoundsCut : List ℕ → CommissionFault → Talk → Talk → Type 0
+AreRoundsCut [] reason x y = ⊥
+AreRoundsCut (number ∷ more) reason x y =
+    IsRoundCut reason x y
+    ⊎ ((one : List Reply)
+    × (at : Talk)
+    × IsRound one x at
+    × (is_any one ≡ true)
+    × AreRoundsCut more reason at y)
+
+abbrev pub IsClearCut : CommissionFault → Talk → Talk → Type 0
+IsClearCut reason x y =
+    AreRoundsCut (1 ∷ 2 ∷ 3 ∷ 4 ∷ []) reason x y
+    ⊎ ((replies : List Reply)
+    × (at : Talk)
+    × AreCleared (1 ∷ 2 ∷ 3 ∷ 4 ∷ []) [] replies x at
+    × (is_any replies ≡ false)
+    × IsCut reason y)
+
 -- WHAT A CLEAR COMES TO
 abbrev pub cleared_as : List Reply → Bool → Result (Unit {0}) Failure
 cleared_as replies found =
@@ -159,4 +210,8 @@ HasCleared {F = F} made saw told records was now x y ended =
     ⊎ ((mid : F)
     × ArePutAside made saw told records was mid
     × AreNewAside made saw told records mid now
-    × (IsErr ended ⊎ IsClearedSo told x y ended))
+    × (((reason : CommissionFault)
+    × (line : ℕ)
+    × (ended ≡ Err (failure_of reason line))
+    × IsClearCut reason x y)
+    ⊎ IsClearedSo told x y ended))

@@ -1,14 +1,15 @@
 //! `clear`: all gear lose their short addresses.
 
-ghost use Rattle.std.specs.Prelude.{◌≡◌, ◌≤◌, ◌++◌, [], None, IfOk, OnOk, length, not};
+ghost use Rattle.std.specs.Prelude.{◌≡◌, ◌≤◌, false, ◌++◌, [], None, IfOk, IfErr, OnOk, length, not};
 ghost use Rattle.std.specs.List.{list_any};
 ghost use Rattle.dali_script.specs.Records.{without_records};
 ghost use Rattle.dali_commissioning.specs.Census.{is_silent};
-ghost use Rattle.dali_commissioning.specs.Drivers.{talk_of};
+ghost use Rattle.dali_commissioning.specs.Drivers.{talk_of, IsCut};
 ghost use Rattle.dali_commissioning.specs.Places.{places};
 ghost use Rattle.dali_commission_cleared.specs.Erasing.{erasing_next};
-ghost use Rattle.dali_commission_cleared.specs.Clearing.{HaveErased, IsRound, AreCleared, IsFollowed, cleared_as};
-ghost use Rattle.dali_commission_cleared.specs.Clearing.{cleared_said, ClearsTo, HasCleared, all_shorts};
+ghost use Rattle.dali_commission_cleared.specs.Clearing.{HaveErased, IsRound, AreCleared, IsFollowed, is_any};
+ghost use Rattle.dali_commission_cleared.specs.Clearing.{cleared_said, ClearsTo, HasCleared, all_shorts, IsEraseCut};
+ghost use Rattle.dali_commission_cleared.specs.Clearing.{IsRoundCut, AreRoundsCut, IsClearCut, cleared_as};
 ghost use Rattle.dali_commission_said.specs.Said.{places_said};
 
 use crate::aside::{Aside, put_aside, put_new_aside};
@@ -40,6 +41,8 @@ fn erase<R: Read, W: Write>(
     ensures put { OnOk result (HaveErased eraser.old eraser.new
         (talk_of R.remaining W.contents driver.old) (talk_of R.remaining W.contents driver.new)) }
     ensures over { OnOk result (erasing_next eraser.new ≡ None) }
+    ensures failed { IfErr result (λ reason. IsEraseCut reason eraser.old
+        (talk_of R.remaining W.contents driver.old) (talk_of R.remaining W.contents driver.new)) }
 {
     for _ in 0..MOST_FRAMES {
         let Some(put) = eraser.put() else {
@@ -67,6 +70,8 @@ fn round<R: Read, W: Write>(
     ensures round { IfOk result (λ replies. IsRound replies.items
         (talk_of R.remaining W.contents driver.old) (talk_of R.remaining W.contents driver.new)) }
     ensures few { IfOk result (λ replies. length replies.items ≤ 64) }
+    ensures failed { IfErr result (λ reason. IsRoundCut reason
+        (talk_of R.remaining W.contents driver.old) (talk_of R.remaining W.contents driver.new)) }
 {
     let mut eraser = Eraser::new();
     erase(driver, &mut eraser)?;
@@ -94,6 +99,8 @@ fn clear_all<S: Voice, R: Read, W: Write>(
     ensures cleared { IfOk result (λ replies. AreCleared rounds.now last.items replies.items
         (talk_of R.remaining W.contents driver.old) (talk_of R.remaining W.contents driver.new)) }
     ensures few { IfOk result (λ replies. length replies.items ≤ 64) }
+    ensures failed { IfErr result (λ reason. AreRoundsCut rounds.now reason
+        (talk_of R.remaining W.contents driver.old) (talk_of R.remaining W.contents driver.new)) }
 {
     let [number, more @ ..] = rounds else {
         return Ok(last);
@@ -112,8 +119,10 @@ fn is_any_there<R: Read, W: Write>(
     driver: &mut DriverLink<R, W>,
     replies: &[Reply],
 ) -> Result<bool, CommissionFault>
-    ensures { IfOk result (λ found. IsFollowed replies.now found
+    ensures asked { IfOk result (λ found. IsFollowed replies.now found
         (talk_of R.remaining W.contents driver.old) (talk_of R.remaining W.contents driver.new)) }
+    ensures failed { IfErr result (λ reason. (is_any replies.now ≡ false)
+        × IsCut reason (talk_of R.remaining W.contents driver.new)) }
 {
     if is_any(replies) {
         Ok(true)
@@ -166,7 +175,9 @@ fn came_to<S: Voice, R: Read, W: Write>(
     progress: &Progress<'_, S>,
     _aside: &Aside,
 ) -> Result<Came, CommissionFault>
-    ensures { IfOk result (λ came. ClearsTo came.ended came.report.said.items came.report.places.items
+    ensures clears { IfOk result (λ came. ClearsTo came.ended came.report.said.items came.report.places.items
+        (talk_of R.remaining W.contents driver.old) (talk_of R.remaining W.contents driver.new)) }
+    ensures failed { IfErr result (λ reason. IsClearCut reason
         (talk_of R.remaining W.contents driver.old) (talk_of R.remaining W.contents driver.new)) }
 {
     let replies = clear_all(driver, progress, &ROUNDS, ArrayVec::new())?;

@@ -1,4 +1,4 @@
-use Rattle.std.proofs.Common.{◌≡◌, true, ℕ, List, [], ◌∷◌, ◌++◌, Option, None, Result, Ok, Err, OnOk, subst, inr}
+use Rattle.std.proofs.Common.{◌≡◌, true, ℕ, List, [], ◌∷◌, ◌++◌, Option, None, Result, Ok, Err, subst, inl, inr}
 use Rattle.std.specs.declared.{alloc.Global.Global, string.String.String}
 use Rattle.dali_script.specs.{declared.block.Block.Block, declared.records.Record.Record, Records.Kept}
 use Rattle.dali_commissioning.specs.{declared.driver.DriverLink.DriverLink, Drivers.{Talk, talk_of}, Runs.IsRead}
@@ -9,27 +9,49 @@ use Rattle.dali_commission_said.specs.declared.failure.Failure.TheVariants.{Shar
 use Rattle.dali_commission_tasks.specs.declared.tasks.{Mend.Mend, Setup.Setup}
 use Rattle.dali_commission_stores.specs.{Calls.Look, declared.records.Seen.Seen, Lent.{IsLent, IsOpened, AreRead}}
 use Rattle.dali_commission_asked.specs.Sharing.{reserved_in}
-use Rattle.dali_commission_mended.specs.{Mends.MendsFrom, Tellings.{AreMendsTold, HasMended, HasMendedAll, HasRun, HasRunOver, IsMendBeside}}
+use Rattle.dali_commission_mended.specs.{Cut.EndsMend, Mends.MendsFrom}
+use Rattle.dali_commission_mended.specs.Tellings.{AreMendsTold, HasNotMended, MendsOver, HasMendedAll, HasRun, HasRunOver, IsMendBeside}
 
--- what a mend comes to, if it ended well
-pub mends_well : {S : Type 0} (is_up is_sound : S → Type 0) (holds : S → List Record → Type 0) (kept_of : S → Kept) (block : Block) (table before : Kept)
+-- what a mend comes to, well or not
+pub ends_so : {S : Type 0} (is_up is_sound : S → Type 0) (holds : S → List Record → Type 0) (kept_of : S → Kept) (block : Block) (table before : Kept)
     (others : List Block) (wanted : Mend) (ms : List Mending) (was keep : S) (x y : Talk) (ended : Result (Unit {0}) Failure)
     → MendsFrom is_up is_sound holds kept_of block table before others wanted ms was keep x y ended
-    → OnOk ended (MendsFrom is_up is_sound holds kept_of block table before others wanted ms was keep x y (Ok tt))
-mends_well is_up is_sound holds kept_of block table before others wanted ms was keep x y (Ok done) is = is
-mends_well is_up is_sound holds kept_of block table before others wanted ms was keep x y (Err e) is = tt
+    → EndsMend is_up is_sound holds kept_of block table before others wanted ms was keep x y ended
+ends_so is_up is_sound holds kept_of block table before others wanted ms was keep x y (Ok done) is = is
+ends_so is_up is_sound holds kept_of block table before others wanted ms was keep x y (Err e) is = inl is
 
--- A MEND that ended well, over records that were read first and last.
-pub mended_well : {S : Type 0} (is_up is_sound : S → Type 0) (holds : S → List Record → Type 0) (kept_of : S → Kept) (block at : Block)
+-- A MEND over records that were read first, and last if it ended well.
+pub not_mended : {S : Type 0} (is_up is_sound : S → Type 0) (holds : S → List Record → Type 0) (kept_of : S → Kept) (block at : Block)
+    (others : List Block) (wanted : Mend) (tables : List Kept) (was opened mid : S) (x y : Talk) (before table : Kept)
+    (ms : List Mending) (ended : Result (Unit {0}) Failure) → at ≡ block → IsRead is_up is_sound holds block was opened before
+    → IsGathered 64 (tables ++ before ∷ []) table → AreOf table.enrolled [] (tables ++ before ∷ [])
+    → EndsMend is_up is_sound holds kept_of at table before others wanted ms opened mid x y ended
+    → HasNotMended is_up is_sound holds kept_of block others wanted tables was x y
+not_mended is_up is_sound holds kept_of block at others wanted tables was opened mid x y before table ms ended same reads gathered of_these mends = record {
+  before = before;
+  opened = opened;
+  reads = reads;
+  table = table;
+  gathered = gathered;
+  of_these = of_these;
+  ms = ms;
+  mid = mid;
+  ended = ended;
+  ends = subst (λ b. EndsMend is_up is_sound holds kept_of b table before others wanted ms opened mid x y ended) same mends;
+}
+
+pub mended_so : {S : Type 0} (is_up is_sound : S → Type 0) (holds : S → List Record → Type 0) (kept_of : S → Kept) (block at : Block)
     (told : Said → Type 0) (others : List Block) (wanted : Mend) (tables : List Kept) (was opened mid keep : S) (x y : Talk) (before table after : Kept)
     (ms : List Mending) (of : Block) (ended result : Result (Unit {0}) Failure) → at ≡ block → IsRead is_up is_sound holds block was opened before
     → IsGathered 64 (tables ++ before ∷ []) table → AreOf table.enrolled [] (tables ++ before ∷ [])
-    → OnOk ended (MendsFrom is_up is_sound holds kept_of at table before others wanted ms opened mid x y (Ok tt))
+    → EndsMend is_up is_sound holds kept_of at table before others wanted ms opened mid x y ended
     → IsRead is_up is_sound holds of mid keep after → AreMendsTold told ms → result ≡ ended
-    → OnOk result (HasMended is_up is_sound holds kept_of block told others wanted tables was keep x y)
-mended_well is_up is_sound holds kept_of block at told others wanted tables was opened mid keep x y before table after ms of (Err e) result same reads
-    gathered of_these mends last said is = rw is tt
-mended_well is_up is_sound holds kept_of block at told others wanted tables was opened mid keep x y before table after ms of (Ok done) result same reads
+    → MendsOver is_up is_sound holds kept_of block told others wanted tables was keep x y result
+mended_so is_up is_sound holds kept_of block at told others wanted tables was opened mid keep x y before table after ms of (Err e) result same reads
+    gathered of_these mends last said is =
+    rw is (inr (not_mended is_up is_sound holds kept_of block at others wanted tables was opened mid x y before table ms (Err e) same reads gathered
+    of_these mends))
+mended_so is_up is_sound holds kept_of block at told others wanted tables was opened mid keep x y before table after ms of (Ok tt) result same reads
     gathered of_these mends last said is =
     rw is (record {
       before = before;
@@ -51,11 +73,10 @@ mended_well is_up is_sound holds kept_of block at told others wanted tables was 
 pub all_mended : {S : Type 0} (is_up is_sound : S → Type 0) (holds : S → List Record → Type 0) (kept_of : S → Kept) (block mended : Block)
     (told : Said → Type 0) (others : List Block) (wanted : Mend) (tables : List Kept) (was keep : S) (x y : Talk) (r : Result (Unit {0}) Failure)
     → wanted.named.items ≡ [] → wanted.missing.items ≡ [] → wanted.block ≡ mended → tables ≡ []
-    → OnOk r (HasMended is_up is_sound holds kept_of block told others wanted tables was keep x y)
-    → OnOk r (HasMendedAll is_up is_sound holds kept_of block told others mended was keep x y)
-all_mended is_up is_sound holds kept_of block mended told others wanted tables was keep x y (Ok done) named missing is none mends =
-    (wanted, named, missing, is, subst (λ t. HasMended is_up is_sound holds kept_of block told others wanted t was keep x y) none mends)
-all_mended is_up is_sound holds kept_of block mended told others wanted tables was keep x y (Err e) named missing is none mends = tt
+    → MendsOver is_up is_sound holds kept_of block told others wanted tables was keep x y r
+    → HasMendedAll is_up is_sound holds kept_of block told others mended was keep x y r
+all_mended is_up is_sound holds kept_of block mended told others wanted tables was keep x y r named missing is none mends =
+    (wanted, named, missing, is, subst (λ t. MendsOver is_up is_sound holds kept_of block told others wanted t was keep x y r) none mends)
 
 -- A MEND beside other tables, as it is lent.
 pub mends_beside : {F K R W : Type 0} (is_up is_sound : K → Type 0) (holds : K → List Record → Type 0) (kept_of : K → Kept) (block_of : K → Block)
@@ -63,8 +84,8 @@ pub mends_beside : {F K R W : Type 0} (is_up is_sound : K → Type 0) (holds : K
     (others : List Block) (wanted : Mend) (stores : F) (name : List ℕ) (more : List (String Global)) (none tables : List Kept) (x y : DriverLink R W)
     (done result : Result (Unit {0}) Failure) → none ≡ [] → AreRead saw stores more none tables → reserved_in wanted.block tables ≡ None
     → IsLent (IsOpened block_of saw opens stores name wanted.block)
-    (λ from to p q done. OnOk done (HasMended is_up is_sound holds kept_of (block_of from) told others wanted tables from to
-    (talk_of remaining contents p) (talk_of remaining contents q))) x y done
+    (λ from to p q done. MendsOver is_up is_sound holds kept_of (block_of from) told others wanted tables from to
+    (talk_of remaining contents p) (talk_of remaining contents q) done) x y done
     → result ≡ done
     → IsMendBeside is_up is_sound holds kept_of block_of saw opens remaining contents told others wanted stores name more x y result
 unfolding IsMendBeside
@@ -77,7 +98,7 @@ pub ran_and_mended : {S : Type 0} (is_up is_sound : S → Type 0) (holds : S →
     (told : Said → Type 0) (others : List Block) (setup : Setup) (was opened mid keep : S) (x at y : Talk) (before : Kept)
     (ended result : Result (Unit {0}) Failure) → first ≡ block → last ≡ block → IsRead is_up is_sound holds block was opened before
     → HasRun is_up is_sound holds first told others setup before opened mid x at ended → setup.mends ≡ true → ended ≡ Err Shared
-    → OnOk result (HasMendedAll is_up is_sound holds kept_of last told others setup.block mid keep at y)
+    → HasMendedAll is_up is_sound holds kept_of last told others setup.block mid keep at y result
     → HasRunOver is_up is_sound holds kept_of block told others setup was keep x y result
 ran_and_mended is_up is_sound holds kept_of block first last told others setup was opened mid keep x at y before ended result same so reads ran mends is
     mended =
@@ -92,6 +113,6 @@ ran_and_mended is_up is_sound holds kept_of block first last told others setup w
       inr (
         mends,
         is,
-        subst (λ b. OnOk result (HasMendedAll is_up is_sound holds kept_of b told others setup.block mid keep at y)) so mended,
+        subst (λ b. HasMendedAll is_up is_sound holds kept_of b told others setup.block mid keep at y result) so mended,
       ),
     )

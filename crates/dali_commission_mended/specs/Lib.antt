@@ -1,3 +1,4 @@
+pub mod Cut
 pub mod Hanging
 pub mod Mends
 pub mod Runs

@@ -1,4 +1,4 @@
-use Rattle.std.specs.Prelude.{◌≡◌, ◌⊎◌, ℕ, List, Result, Ok, Err}
+use Rattle.std.specs.Prelude.{◌≡◌, ◌⊎◌, ℕ, List, Some, Result, Ok, Err}
 use Rattle.dali_script.specs.declared.block.Block.{Block}
 use Rattle.dali_script.specs.declared.orders.End.TheVariants.{AllFound}
 use Rattle.dali_script.specs.declared.orders.Input.TheVariants.{Survey}
@@ -9,8 +9,10 @@ use Rattle.dali_commissioning.specs.declared.beginning.Begun.TheVariants as begu
 use Rattle.dali_commissioning.specs.declared.conducting.Ended.TheVariants.{Done}
 use Rattle.dali_commissioning.specs.declared.conducting.PassEnd.{PassEnd}
 use Rattle.dali_commissioning.specs.declared.fault.CommissionFault.{CommissionFault}
+use Rattle.dali_commissioning.specs.declared.fault.CommissionFault.TheVariants as fault
 use Rattle.dali_commissioning.specs.Acts.{RunsLeaveRules}
-use Rattle.dali_commissioning.specs.Drivers.{Talk}
+use Rattle.dali_commissioning.specs.Acts as acts
+use Rattle.dali_commissioning.specs.Drivers.{Talk, IsCutBeside}
 use Rattle.dali_commissioning.specs.Places.{places}
 use Rattle.dali_commissioning.specs.Runs.{Run, AreRuns, EndWith, ComeTo, AreQuiet, IsBegun}
 use Rattle.dali_commissioning.specs.Rules.{LeavesBegun}
@@ -53,6 +55,26 @@ HasNotBegun is_up is_sound holds block others was keep x y start.Fresh fault =
 HasNotBegun is_up is_sound holds block others was keep x y start.Survey fault =
     RunsLeaveRules is_up is_sound holds block Survey fault was keep x y
 
+-- WHY IT DOES NOT BEGIN
+abbrev pub HasNotSurveyed : {S : Type 0} (is_up is_sound : S → Type 0)
+    (holds : S → List Record → Type 0) → Block → CommissionFault → S → S → Talk → Talk → Type 0
+HasNotSurveyed is_up is_sound holds block (fault.Driver f) was keep x y = y.fault ≡ Some f
+HasNotSurveyed is_up is_sound holds block fault.QuestionLost was keep x y = ⊥
+HasNotSurveyed is_up is_sound holds block (fault.Store e) was keep x y =
+    RunsLeaveRules is_up is_sound holds block Survey (fault.Store e) was keep x y
+HasNotSurveyed is_up is_sound holds block fault.StepsSpent was keep x y =
+    RunsLeaveRules is_up is_sound holds block Survey fault.StepsSpent was keep x y
+HasNotSurveyed is_up is_sound holds block fault.RunsSpent was keep x y =
+    RunsLeaveRules is_up is_sound holds block Survey fault.RunsSpent was keep x y
+
+abbrev pub HasNotBegunSo : {S : Type 0} (is_up is_sound : S → Type 0)
+    (holds : S → List Record → Type 0) → Block → List Block → CommissionFault → S → S → Talk → Talk
+    → Start → Type 0
+HasNotBegunSo is_up is_sound holds block others reason was keep x y start.Fresh =
+    acts.HasNotBegun is_up is_sound holds block others reason was keep x y
+HasNotBegunSo is_up is_sound holds block others reason was keep x y start.Survey =
+    HasNotSurveyed is_up is_sound holds block reason was keep x y
+
 -- HOW A RUN ENDS, as the last machine did: the records are read, and at last gear are asked until
 -- one answers. It does not end well if none does, or if something is still heard where the last
 -- survey left gear alone.
@@ -69,9 +91,13 @@ EndsSo is_up is_sound holds block pass before aim was keep x y lines ended =
     × RunSaid (pass_at_last pass last) before after aim frames lines
 
 -- WHAT A RUN COMES TO that began so: gear that no record names are said, and nothing else is done
--- beside them; else it ends as its last machine, or stops for a fault
-abbrev pub IsStopped : Result (Unit {0}) Failure → Type 0
-IsStopped ended = (fault : CommissionFault) × (line : ℕ) × (ended ≡ Err (failure_of fault line))
+-- beside them; else it ends as its last machine, or is cut short at last; or it did not begin
+abbrev pub IsStopped : Result (Unit {0}) Failure → Talk → Talk → Type 0
+IsStopped ended x y =
+    (reason : CommissionFault)
+    × (line : ℕ)
+    × (ended ≡ Err (failure_of reason line))
+    × IsCutBeside reason x y
 
 abbrev pub ComesTo : {S : Type 0} (is_up is_sound : S → Type 0) (holds : S → List Record → Type 0)
     → Block → Kept → List Block → Result Begun CommissionFault → S → S → Talk → Talk → List Said
@@ -84,8 +110,8 @@ ComesTo is_up is_sound holds block k others (Ok (begun.Addressed replies)) was k
     × (y ≡ x)
 ComesTo is_up is_sound holds block k others (Ok (begun.Commissioned pass)) was keep x y lines
     ended =
-    IsStopped ended
+    IsStopped ended x y
     ⊎ ((aim : Aim)
     × EndsSo is_up is_sound holds block pass k aim was keep x y lines ended)
-ComesTo is_up is_sound holds block k others (Err fault) was keep x y lines ended =
-    IsStopped ended × (keep ≡ was) × (y ≡ x)
+ComesTo is_up is_sound holds block k others (Err reason) was keep x y lines ended =
+    (line : ℕ) × (ended ≡ Err (failure_of reason line)) × (keep ≡ was) × (y ≡ x)

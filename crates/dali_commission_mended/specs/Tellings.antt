@@ -24,8 +24,9 @@ use Rattle.dali_commission_stores.specs.Calls.{Look}
 use Rattle.dali_commission_stores.specs.declared.records.Seen.{Seen}
 use Rattle.dali_commission_stores.specs.Lent.{IsLent, IsOpened, AreRead}
 use Rattle.dali_commission_asked.specs.Sharing.{reserved_in}
-use Rattle.dali_commission_mended.specs.Runs.{HasBegun, HasNotBegun, ComesTo}
+use Rattle.dali_commission_mended.specs.Runs.{HasBegun, HasNotBegun, HasNotBegunSo, ComesTo}
 use Rattle.dali_commission_mended.specs.Mends.{MendsFrom}
+use Rattle.dali_commission_mended.specs.Cut.{EndsMend}
 
 -- WHAT CAME OF EACH SHORT ADDRESS that was mended is said
 abbrev pub MendTold : (Said → Type 0) → ℕ → Option Outcome → Type 0
@@ -51,6 +52,8 @@ HasRun {S = S} is_up is_sound holds block told others setup before was keep x y 
     × IfErr begun (HasNotBegun is_up is_sound holds block others was mid x at setup.start)
     × ComesTo is_up is_sound holds block before others begun mid keep at y lines ended
     × AreTold told lines
+    × IfErr begun (λ reason. HasNotBegunSo is_up is_sound holds block others reason was mid x at
+    setup.start)
 
 -- A MEND THAT ENDED WELL, with these tables of other files, has read its own; it has asked each
 -- short address, has looked for gear that are away, and was not refused by what was heard; all gear
@@ -74,16 +77,41 @@ pub record HasMended {S : Type 0} (is_up is_sound : S → Type 0)
   pub reads_last : IsRead is_up is_sound holds of mid keep after
   pub said : AreMendsTold told ms
 
+-- A MEND THAT FAILED has read its own and put a beginning of that, or nothing
+pub record HasNotMended {S : Type 0} (is_up is_sound : S → Type 0)
+    (holds : S → List Record → Type 0) (kept_of : S → Kept) (block : Block) (others : List Block)
+    (wanted : Mend) (tables : List Kept) (was : S) (x y : Talk) : Type 0 where
+  pub before : Kept
+  pub opened : S
+  pub reads : IsRead is_up is_sound holds block was opened before
+  pub table : Kept
+  pub gathered : IsGathered 64 (tables ++ before ∷ []) table
+  pub of_these : AreOf table.enrolled [] (tables ++ before ∷ [])
+  pub ms : List Mending
+  pub mid : S
+  pub ended : Result (Unit {0}) Failure
+  pub ends : EndsMend is_up is_sound holds kept_of block table before others wanted ms opened mid
+      x y ended
+
+abbrev pub MendsOver : {S : Type 0} (is_up is_sound : S → Type 0)
+    (holds : S → List Record → Type 0) (kept_of : S → Kept) → Block → (Said → Type 0)
+    → List Block → Mend → List Kept → S → S → Talk → Talk → Result (Unit {0}) Failure → Type 0
+MendsOver is_up is_sound holds kept_of block told others wanted tables was keep x y (Ok done) =
+    HasMended is_up is_sound holds kept_of block told others wanted tables was keep x y
+MendsOver is_up is_sound holds kept_of block told others wanted tables was keep x y (Err failure) =
+    (y ≡ x)
+    ⊎ HasNotMended is_up is_sound holds kept_of block others wanted tables was x y
+
 -- the same of all gear that share a short address, beside no other tables
 abbrev pub HasMendedAll : {S : Type 0} (is_up is_sound : S → Type 0)
     (holds : S → List Record → Type 0) (kept_of : S → Kept) → Block → (Said → Type 0)
-    → List Block → Block → S → S → Talk → Talk → Type 0
-HasMendedAll is_up is_sound holds kept_of block told others mended was keep x y =
+    → List Block → Block → S → S → Talk → Talk → Result (Unit {0}) Failure → Type 0
+HasMendedAll is_up is_sound holds kept_of block told others mended was keep x y result =
     (wanted : Mend)
     × (wanted.named.items ≡ [])
     × (wanted.missing.items ≡ [])
     × (wanted.block ≡ mended)
-    × HasMended is_up is_sound holds kept_of block told others wanted [] was keep x y
+    × MendsOver is_up is_sound holds kept_of block told others wanted [] was keep x y result
 
 -- A RUN ENDS SO, or mends what gear share, if that is asked for
 abbrev pub EndsOrMends : {S : Type 0} (is_up is_sound : S → Type 0)
@@ -94,8 +122,7 @@ EndsOrMends is_up is_sound holds kept_of block told others setup ended was keep 
     ((setup.mends ≡ true → ended ≡ Err Shared → ⊥) × (result ≡ ended) × (keep ≡ was) × (y ≡ x))
     ⊎ ((setup.mends ≡ true)
     × (ended ≡ Err Shared)
-    × OnOk result
-    (HasMendedAll is_up is_sound holds kept_of block told others setup.block was keep x y))
+    × HasMendedAll is_up is_sound holds kept_of block told others setup.block was keep x y result)
 
 -- A RUN OVER RECORDS that are open reads them, runs, and mends then, if that is asked for
 abbrev pub HasRunOver : {S : Type 0} (is_up is_sound : S → Type 0)
@@ -126,9 +153,8 @@ IsMendBeside is_up is_sound holds kept_of block_of saw opens remaining contents 
     × AreRead saw stores more [] tables
     × (reserved_in wanted.block tables ≡ None)
     × IsLent (IsOpened block_of saw opens stores name wanted.block)
-    (λ from to p q done. OnOk done
-    (HasMended is_up is_sound holds kept_of (block_of from) told others wanted tables from to
-    (talk_of remaining contents p) (talk_of remaining contents q)))
+    (λ from to p q done. MendsOver is_up is_sound holds kept_of (block_of from) told others wanted
+    tables from to (talk_of remaining contents p) (talk_of remaining contents q) done)
     x y result)
 
 abbrev pub IsMendOf : {F K R W : Type 0} (is_up is_sound : K → Type 0)

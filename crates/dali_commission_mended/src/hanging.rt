@@ -1,9 +1,9 @@
 //! Gear of the tables that do not answer at their short addresses: which of them are heard among the gear that share
 //! another one. A mend takes that one from them, and surveys give them their own again.
 
-ghost use Rattle.std.specs.Prelude.{◌≡◌, ◌+◌, ◌≤◌, IfOk, OnOk, length};
+ghost use Rattle.std.specs.Prelude.{◌≡◌, ◌+◌, ◌≤◌, IfOk, IfErr, OnOk, length};
 ghost use Rattle.std.specs.List.{list_any};
-ghost use Rattle.dali_commissioning.specs.Drivers.{talk_of};
+ghost use Rattle.dali_commissioning.specs.Drivers.{talk_of, IsCut};
 ghost use Rattle.dali_commission_mended.specs.Hanging.{AnswersUnder, HangsAt, stands_against, is_returnable, sought_by};
 ghost use Rattle.dali_commission_mended.specs.Hanging.{sought_at, IsLookedFor, AreLookedFor};
 
@@ -25,8 +25,9 @@ fn answers_under<R: Read, W: Write>(
     short: Short,
     random: Random24,
 ) -> Result<bool, CommissionFault>
-    ensures { IfOk result (λ found. AnswersUnder random short found
+    ensures answered { IfOk result (λ found. AnswersUnder random short found
         (talk_of R.remaining W.contents driver.old) (talk_of R.remaining W.contents driver.new)) }
+    ensures failed { IfErr result (λ reason. IsCut reason (talk_of R.remaining W.contents driver.new)) }
 {
     has_under(driver, short, random)
 }
@@ -37,8 +38,9 @@ fn hangs_at<R: Read, W: Write>(
     random: Random24,
     shorts: &[Short],
 ) -> Result<Option<Short>, CommissionFault>
-    ensures { IfOk result (λ found. HangsAt random shorts.now found
+    ensures hangs { IfOk result (λ found. HangsAt random shorts.now found
         (talk_of R.remaining W.contents driver.old) (talk_of R.remaining W.contents driver.new)) }
+    ensures failed { IfErr result (λ reason. IsCut reason (talk_of R.remaining W.contents driver.new)) }
 {
     let [short, more @ ..] = shorts else {
         return Ok(None);
@@ -117,6 +119,7 @@ fn look_for<S: Voice, R: Read, W: Write>(
     ensures found { OnOk result (IsLookedFor short sought shorts.now hanging.old.items hanging.new.items
         (talk_of R.remaining W.contents driver.old) (talk_of R.remaining W.contents driver.new)) }
     ensures room { length hanging.new.items ≤ length hanging.old.items + 1 }
+    ensures failed { IfErr result (λ reason. IsCut reason (talk_of R.remaining W.contents driver.new)) }
 {
     let Some(random) = sought else {
         return Ok(());
@@ -141,9 +144,10 @@ pub(crate) fn look_for_all<S: Voice, R: Read, W: Write>(
 ) -> Result<(), CommissionFault>
     requires number { number + length replies.now ≤ 64 }
     requires room { length hanging.old.items + length replies.now ≤ 64 }
-    ensures { OnOk result (AreLookedFor site.now.table.now site.now.before.now site.now.others.now site.now.wanted.now
-        shorts.now number replies.now hanging.old.items hanging.new.items
+    ensures found { OnOk result (AreLookedFor site.now.table.now site.now.before.now site.now.others.now
+        site.now.wanted.now shorts.now number replies.now hanging.old.items hanging.new.items
         (talk_of R.remaining W.contents driver.old) (talk_of R.remaining W.contents driver.new)) }
+    ensures failed { IfErr result (λ reason. IsCut reason (talk_of R.remaining W.contents driver.new)) }
 {
     let [reply, more @ ..] = replies else {
         return Ok(());

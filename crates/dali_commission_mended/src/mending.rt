@@ -1,16 +1,19 @@
 //! `mend`: gear that share a short address are told apart; then surveys enrol who has kept one, and serve who lost it.
 
-ghost use Rattle.std.specs.Prelude.{◌≡◌, ◌≤◌, [], None, Ok, Err, IfOk, OnOk, length};
+ghost use Rattle.std.specs.Prelude.{◌≡◌, ◌≤◌, ℕ, [], None, Err, IfOk, IfErr, OnOk, length};
 ghost use Rattle.dali_commission_asked.specs.Ending.{none_left};
-ghost use Rattle.dali_mending.specs.Mending.{put_next};
+ghost use Rattle.dali_mending.specs.Mending.{put_next, mending_begun};
 ghost use Rattle.dali_commissioning.specs.Drivers.{talk_of};
 ghost use Rattle.dali_commissioning.specs.Places.{places};
 ghost use Rattle.dali_commission_mended.specs.Mends.{HasPut, IsMended, AreMended, HasSurveyed, MendedSo, Follows};
 ghost use Rattle.dali_commission_mended.specs.Mends.{HasMendedSo, MendsBeside, MendsTo, MendsFrom, mended_as};
 ghost use Rattle.dali_commission_mended.specs.Hanging.{AreLookedFor};
+ghost use Rattle.dali_commission_mended.specs.Cut.{IsPutCut, AreMendsCut, AreSurveysCut, IsEndCut, FollowsCut};
+ghost use Rattle.dali_commission_mended.specs.Cut.{MendedCut, BesideCut, ToCut, FromCut, EndsMend};
+ghost use Rattle.dali_commission_asked.specs.Came.{IsCutAs};
 ghost use Rattle.dali_commission_asked.specs.Sharing.{with_left, why_open, is_any_left_shared, meant_from};
 ghost use Rattle.dali_commission_said.specs.Reports.{heard_of};
-ghost use Rattle.dali_commission_mended.specs.Tellings.{AreMendsTold, HasMended, IsMendBeside, IsMendOf};
+ghost use Rattle.dali_commission_mended.specs.Tellings.{AreMendsTold, MendsOver, IsMendBeside, IsMendOf};
 
 use crate::hanging::{Hanging, look_for_all};
 use crate::running::left_of;
@@ -51,6 +54,8 @@ fn conduct<R: Read, W: Write>(
     ensures put { OnOk result (HasPut mending.old mending.new
         (talk_of R.remaining W.contents driver.old) (talk_of R.remaining W.contents driver.new)) }
     ensures over { OnOk result (put_next mending.new ≡ None) }
+    ensures failed { IfErr result (λ reason. IsPutCut reason mending.old
+        (talk_of R.remaining W.contents driver.old) (talk_of R.remaining W.contents driver.new)) }
 {
     for _ in 0..MOST_FRAMES {
         let Some(put) = mending.put() else {
@@ -70,7 +75,9 @@ fn mend<R: Read, W: Write>(
     table: &Kept,
     short: Short,
 ) -> Result<Mending, CommissionFault>
-    ensures { IfOk result (λ mending. IsMended table.now short mending
+    ensures mended { IfOk result (λ mending. IsMended table.now short mending
+        (talk_of R.remaining W.contents driver.old) (talk_of R.remaining W.contents driver.new)) }
+    ensures failed { IfErr result (λ reason. IsPutCut reason (mending_begun short table.now.enrolled)
         (talk_of R.remaining W.contents driver.old) (talk_of R.remaining W.contents driver.new)) }
 {
     let mut mending = Mending::new(short, table.enrolled());
@@ -86,7 +93,9 @@ fn mend_all<S: Voice, R: Read, W: Write>(
     shorts: &[Short],
     mended: &mut Vec<Mending>,
 ) -> Result<(), Failure>
-    ensures { OnOk result (AreMended table.now shorts.now mended.old.items mended.new.items
+    ensures mended { OnOk result (AreMended table.now shorts.now mended.old.items mended.new.items
+        (talk_of R.remaining W.contents driver.old) (talk_of R.remaining W.contents driver.new)) }
+    ensures failed { IfErr result (λ failure. AreMendsCut table.now shorts.now failure
         (talk_of R.remaining W.contents driver.old) (talk_of R.remaining W.contents driver.new)) }
 {
     let [short, more @ ..] = shorts else {
@@ -108,8 +117,11 @@ fn survey<K: Keep, R: Read, W: Write, P: Watch>(
     table: &Kept,
     hanging: &[Pair],
 ) -> Result<PassEnd, CommissionFault>
-    ensures { IfOk result (HasSurveyed K.is_up K.is_sound K.holds K.kept (K.block store.old) table.now hanging.now
-        store.new (talk_of R.remaining W.contents driver.old) (talk_of R.remaining W.contents driver.new)) }
+    ensures surveyed { IfOk result (HasSurveyed K.is_up K.is_sound K.holds K.kept (K.block store.old) table.now
+        hanging.now store.new (talk_of R.remaining W.contents driver.old) (talk_of R.remaining W.contents driver.new)) }
+    ensures failed { IfErr result (λ reason. AreSurveysCut K.is_up K.is_sound K.holds K.kept (K.block store.old)
+        table.now hanging.now reason store.new
+        (talk_of R.remaining W.contents driver.old) (talk_of R.remaining W.contents driver.new)) }
 {
     if let Err(error) = refill(store, table, hanging) {
         return Err(CommissionFault::Store(error));
@@ -201,8 +213,11 @@ fn end_so<K: Keep, R: Read, W: Write>(
     work: &Work<'_>,
     pass: &PassEnd,
 ) -> Result<Came, Failure>
-    ensures { IfOk result (λ came. MendedSo pass.now (K.kept store.new) work.now.replies.now work.now.mended.now
-        came.ended (talk_of R.remaining W.contents driver.old) (talk_of R.remaining W.contents driver.new)) }
+    ensures ended { IfOk result (λ came. MendedSo pass.now (K.kept store.new) work.now.replies.now
+        work.now.mended.now came.ended
+        (talk_of R.remaining W.contents driver.old) (talk_of R.remaining W.contents driver.new)) }
+    ensures failed { IfErr result (λ failure. IsEndCut failure
+        (talk_of R.remaining W.contents driver.old) (talk_of R.remaining W.contents driver.new)) }
 {
     let after = kept(store)?;
     let asked = ask_at_last(driver, pass, &after);
@@ -221,10 +236,14 @@ fn follow<S: Voice, K: Keep, R: Read, W: Write>(
     site: &Site<'_>,
     work: &Work<'_>,
 ) -> Result<Came, Failure>
-    ensures { IfOk result (λ came. Follows K.is_up K.is_sound K.holds K.kept (K.block store.old) site.now.table.now
+    ensures follows { IfOk result (λ came. Follows K.is_up K.is_sound K.holds K.kept (K.block store.old)
+        site.now.table.now
         work.now.hanging.now work.now.replies.now work.now.mended.now store.old store.new
         (talk_of R.remaining W.contents driver.old)
         (talk_of R.remaining W.contents driver.new) came.ended) }
+    ensures failed { IfErr result (λ failure. FollowsCut K.is_up K.is_sound K.holds K.kept (K.block store.old)
+        site.now.table.now work.now.hanging.now work.now.replies.now work.now.mended.now failure store.new
+        (talk_of R.remaining W.contents driver.old) (talk_of R.remaining W.contents driver.new)) }
 {
     if is_any_bare(work.replies, work.mended) {
         return Ok(came_unsurveyed(work, site.before));
@@ -245,9 +264,11 @@ fn look<S: Voice, R: Read, W: Write>(
     replies: &[Reply],
 ) -> Result<Hanging, Failure>
     requires { length replies.now ≤ 64 }
-    ensures { IfOk result (λ hanging. AreLookedFor site.now.table.now site.now.before.now site.now.others.now
+    ensures looked { IfOk result (λ hanging. AreLookedFor site.now.table.now site.now.before.now site.now.others.now
         site.now.wanted.now (meant_from site.now.wanted.now.named.items 0 replies.now) 0 replies.now [] hanging.items
         (talk_of R.remaining W.contents driver.old) (talk_of R.remaining W.contents driver.new)) }
+    ensures failed { IfErr result (λ failure. (line : ℕ) × IsCutAs failure line
+        (talk_of R.remaining W.contents driver.new)) }
 {
     let meant = meant_of(&site.wanted.named, replies);
     let mut hanging = ArrayVec::new();
@@ -269,9 +290,12 @@ fn mend_meant<S: Voice, K: Keep, R: Read, W: Write>(
 ) -> Result<Came, Failure>
     requires few { length replies.now ≤ 64 }
     requires none { mended.old.items ≡ [] }
-    ensures { IfOk result (λ came. HasMendedSo K.is_up K.is_sound K.holds K.kept (K.block store.old)
+    ensures mended { IfOk result (λ came. HasMendedSo K.is_up K.is_sound K.holds K.kept (K.block store.old)
         site.now.table.now site.now.wanted.now hanging.now replies.now mended.new.items store.old store.new
         (talk_of R.remaining W.contents driver.old) (talk_of R.remaining W.contents driver.new) came.ended) }
+    ensures failed { IfErr result (λ failure. MendedCut K.is_up K.is_sound K.holds K.kept (K.block store.old)
+        site.now.table.now site.now.wanted.now hanging.now replies.now failure store.new
+        (talk_of R.remaining W.contents driver.old) (talk_of R.remaining W.contents driver.new)) }
 {
     let meant = meant_of(&site.wanted.named, replies);
     mend_all(driver, progress, site.table, &meant, mended)?;
@@ -295,9 +319,12 @@ fn mends_beside<S: Voice, K: Keep, R: Read, W: Write>(
 ) -> Result<Came, Failure>
     requires few { length replies.now ≤ 64 }
     requires none { mended.old.items ≡ [] }
-    ensures { IfOk result (λ came. MendsBeside K.is_up K.is_sound K.holds K.kept (K.block store.old)
+    ensures mends { IfOk result (λ came. MendsBeside K.is_up K.is_sound K.holds K.kept (K.block store.old)
         site.now.table.now site.now.others.now site.now.wanted.now hanging.now replies.now mended.new.items store.old
         store.new (talk_of R.remaining W.contents driver.old) (talk_of R.remaining W.contents driver.new) came.ended) }
+    ensures failed { IfErr result (λ failure. BesideCut K.is_up K.is_sound K.holds K.kept (K.block store.old)
+        site.now.table.now site.now.others.now site.now.wanted.now hanging.now replies.now failure store.new
+        (talk_of R.remaining W.contents driver.old) (talk_of R.remaining W.contents driver.new)) }
 {
     if let Some(refusal) = refused_from(site, hanging, 0, replies) {
         return Ok(came_refused(site, replies, refusal));
@@ -316,9 +343,13 @@ fn mends_by<S: Voice, K: Keep, R: Read, W: Write>(
 ) -> Result<Came, Failure>
     requires few { length replies.now ≤ 64 }
     requires none { mended.old.items ≡ [] }
-    ensures { IfOk result (λ came. MendsTo K.is_up K.is_sound K.holds K.kept (K.block store.old) site.now.table.now
+    ensures mends { IfOk result (λ came. MendsTo K.is_up K.is_sound K.holds K.kept (K.block store.old)
+        site.now.table.now
         site.now.before.now site.now.others.now site.now.wanted.now replies.now mended.new.items store.old store.new
         (talk_of R.remaining W.contents driver.old) (talk_of R.remaining W.contents driver.new) came.ended) }
+    ensures failed { IfErr result (λ failure. ToCut K.is_up K.is_sound K.holds K.kept (K.block store.old)
+        site.now.table.now site.now.before.now site.now.others.now site.now.wanted.now replies.now failure store.new
+        (talk_of R.remaining W.contents driver.old) (talk_of R.remaining W.contents driver.new)) }
 {
     let hanging = look(driver, progress, site, replies)?;
     mends_beside(store, driver, progress, site, replies, &hanging, mended)
@@ -333,9 +364,13 @@ fn came_to<S: Voice, K: Keep, R: Read, W: Write>(
     mended: &mut Vec<Mending>,
 ) -> Result<Came, Failure>
     requires { mended.old.items ≡ [] }
-    ensures { IfOk result (λ came. MendsFrom K.is_up K.is_sound K.holds K.kept (K.block store.old) site.now.table.now
+    ensures mends { IfOk result (λ came. MendsFrom K.is_up K.is_sound K.holds K.kept (K.block store.old)
+        site.now.table.now
         site.now.before.now site.now.others.now site.now.wanted.now mended.new.items store.old store.new
         (talk_of R.remaining W.contents driver.old) (talk_of R.remaining W.contents driver.new) came.ended) }
+    ensures failed { IfErr result (λ failure. FromCut K.is_up K.is_sound K.holds K.kept (K.block store.old)
+        site.now.table.now site.now.before.now site.now.others.now site.now.wanted.now failure store.new
+        (talk_of R.remaining W.contents driver.old) (talk_of R.remaining W.contents driver.new)) }
 {
     progress.begin(&Said::AsksAll);
     match take_census(driver, &Kept::new(site.table.block()), site.others) {
@@ -359,9 +394,9 @@ fn came_to_or_not<S: Voice, K: Keep, R: Read, W: Write>(
     mended: &mut Vec<Mending>,
 ) -> Came
     requires { mended.old.items ≡ [] }
-    ensures { OnOk result.ended (MendsFrom K.is_up K.is_sound K.holds K.kept (K.block store.old) site.now.table.now
+    ensures { EndsMend K.is_up K.is_sound K.holds K.kept (K.block store.old) site.now.table.now
         site.now.before.now site.now.others.now site.now.wanted.now mended.new.items store.old store.new
-        (talk_of R.remaining W.contents driver.old) (talk_of R.remaining W.contents driver.new) (Ok tt)) }
+        (talk_of R.remaining W.contents driver.old) (talk_of R.remaining W.contents driver.new) result.ended }
 {
     match came_to(store, driver, progress, site, mended) {
         Ok(came) => came,
@@ -406,10 +441,10 @@ impl<S: Voice + AllocGlobal> Mender<'_, S> {
         store: &mut K,
         driver: &mut DriverLink<R, W>,
     ) -> Result<(), Failure>
-        ensures { OnOk result (HasMended K.is_up K.is_sound K.holds K.kept (K.block store.old)
+        ensures { MendsOver K.is_up K.is_sound K.holds K.kept (K.block store.old)
             (S.told self.entry.system.now) self.entry.others.now self.entry.wanted.now self.entry.tables.items
             store.old store.new
-            (talk_of R.remaining W.contents driver.old) (talk_of R.remaining W.contents driver.new)) }
+            (talk_of R.remaining W.contents driver.old) (talk_of R.remaining W.contents driver.new) result }
     {
         let (system, mut tables) = (self.system, self.tables);
         let before = kept(store)?;
@@ -436,13 +471,12 @@ impl<K: Keep, S: Voice + AllocGlobal, R: Read, W: Write> Borrower<K, DriverLink<
     for Mender<'_, S> {
     type Out = ();
 
-    ghost use Rattle.std.specs.Prelude.{OnOk};
     ghost use Rattle.dali_commissioning.specs.Drivers.{talk_of};
-    ghost use Rattle.dali_commission_mended.specs.Tellings.{HasMended};
+    ghost use Rattle.dali_commission_mended.specs.Tellings.{MendsOver};
 
-    ghost came = { λ mender from to x y result. OnOk result (HasMended K.is_up K.is_sound K.holds K.kept (K.block from)
+    ghost came = { λ mender from to x y result. MendsOver K.is_up K.is_sound K.holds K.kept (K.block from)
         (S.told mender.system.now) mender.others.now mender.wanted.now mender.tables.items from to
-        (talk_of R.remaining W.contents x) (talk_of R.remaining W.contents y)) };
+        (talk_of R.remaining W.contents x) (talk_of R.remaining W.contents y) result };
 
     fn take(self, store: &mut K, driver: &mut DriverLink<R, W>) -> Result<(), Failure> {
         self.over(store, driver)

@@ -1,13 +1,13 @@
 //! `run`: gear are given short addresses.
 
-ghost use Rattle.std.specs.Prelude.{◌≡◌, ◌↔◌, ◌+◌, ◌-◌, ℕ, Err, IfOk, IfErr, IsTrue, OnOk, length};
-ghost use Rattle.dali_commissioning.specs.Drivers.{talk_of};
+ghost use Rattle.std.specs.Prelude.{◌≡◌, ◌↔◌, ◌+◌, ◌-◌, ℕ, Err, IfOk, IfErr, IsTrue, length};
+ghost use Rattle.dali_commissioning.specs.Drivers.{talk_of, IsCutBeside};
 ghost use Rattle.dali_commission_said.specs.declared.failure.Failure.TheVariants.{Shared};
 ghost use Rattle.dali_commissioning.specs.declared.fault.CommissionFault.{CommissionFault};
 ghost use Rattle.dali_commission_said.specs.Failures.{ended_as, failure_of};
 ghost use Rattle.dali_commission_asked.specs.Ending.{pass_at_last};
 ghost use Rattle.dali_commission_asked.specs.Sharing.{left_open};
-ghost use Rattle.dali_commission_mended.specs.Runs.{HasBegun, HasNotBegun, EndsSo, ComesTo};
+ghost use Rattle.dali_commission_mended.specs.Runs.{HasBegun, HasNotBegun, HasNotBegunSo, EndsSo, ComesTo};
 ghost use Rattle.dali_commission_said.specs.Reports.{RunSaid};
 ghost use Rattle.dali_commission_mended.specs.Tellings.{HasRun, HasMendedAll};
 
@@ -52,6 +52,9 @@ fn begun<K: Keep, R: Read, W: Write, P: Watch>(
         store.old store.new
         (talk_of R.remaining W.contents driver.old) (talk_of R.remaining W.contents driver.new) setup.now.start) }
     ensures block { K.block store.new ≡ K.block store.old }
+    ensures failed { IfErr result (λ reason. HasNotBegunSo K.is_up K.is_sound K.holds (K.block store.old) others.now
+        reason store.old store.new
+        (talk_of R.remaining W.contents driver.old) (talk_of R.remaining W.contents driver.new) setup.now.start) }
 {
     match setup.start {
         Start::Fresh => begin(store, driver, watch, others, setup.idle_passes),
@@ -92,8 +95,9 @@ fn ended_so<K: Keep, R: Read, W: Write>(
     aim: Aim,
 ) -> Result<Came, Failure>
     ensures block { K.block store.new ≡ K.block store.old }
-    ensures stops { IfErr result (λ failure. (fault : CommissionFault) × (line : ℕ) × (failure ≡ failure_of fault
-        line)) }
+    ensures stops { IfErr result (λ failure. (fault : CommissionFault) × (line : ℕ) × (failure ≡ failure_of fault line)
+        × IsCutBeside fault (talk_of R.remaining W.contents driver.old)
+        (talk_of R.remaining W.contents driver.new)) }
     ensures ends { IfOk result (λ came. EndsSo K.is_up K.is_sound K.holds (K.block store.old) pass.now before.now aim
         store.old store.new (talk_of R.remaining W.contents driver.old) (talk_of R.remaining W.contents driver.new)
         came.report.said.items came.ended) }
@@ -190,9 +194,9 @@ impl<S: Voice + AllocGlobal> Running<'_, S> {
         store: &mut K,
         driver: &mut DriverLink<R, W>,
     ) -> Result<(), Failure>
-        ensures { OnOk result (HasMendedAll K.is_up K.is_sound K.holds K.kept (K.block store.old)
+        ensures { HasMendedAll K.is_up K.is_sound K.holds K.kept (K.block store.old)
             (S.told self.entry.system.now) self.entry.others.now self.entry.setup.now.block store.old store.new
-            (talk_of R.remaining W.contents driver.old) (talk_of R.remaining W.contents driver.new)) }
+            (talk_of R.remaining W.contents driver.old) (talk_of R.remaining W.contents driver.new) result }
     {
         let alloc = self.system.alloc();
         let wanted = Mend {

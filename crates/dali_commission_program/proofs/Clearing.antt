@@ -41,6 +41,6 @@ cleared_more lines stand x y (replies, found, at, are, inr (none, left), is, sta
 pub clear_more : {F : Type 0} (made : F → F → Call → Type 0) (saw : F → Look → Type 0) (told : Said → Type 0)
     (records : List (String Global)) (was now : F) (x y : Talk) → HasCleared made saw told records was now x y (Ok (tt {0})) → IsMore x y
 clear_more made saw told records was now x y (inl (err, same)) = absurd (false≢true err)
-clear_more made saw told records was now x y (inr (mid, aside, new, inl err)) = absurd (false≢true err)
+clear_more made saw told records was now x y (inr (mid, aside, new, inl (reason, line, so, cut))) = absurd (ok_err _ so)
 clear_more made saw told records was now x y (inr (mid, aside, new, inr (lines, stand, clears, said))) =
     cleared_more lines stand x y clears

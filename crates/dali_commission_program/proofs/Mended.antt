@@ -50,12 +50,12 @@ run_so : {S : Type 0} (is_up is_sound : S → Type 0) (holds : S → List Record
 run_so is_up is_sound holds block before others wanted by was mid keep x at y lines (Ok (begun.Addressed replies)) ended well is
     (says, so, stores, same) = absurd (ok_err _ (sym well ∙ so))
 run_so is_up is_sound holds block before others wanted by was mid keep x at y lines (Ok (begun.Commissioned pass)) ended well is
-    (inl (fault, line, so)) = absurd (ok_err _ (sym well ∙ so))
+    (inl (fault, line, so, cut)) = absurd (ok_err _ (sym well ∙ so))
 run_so is_up is_sound holds block before others wanted by was mid keep x at y lines (Ok (begun.Commissioned pass)) ended well is
     (inr (aim, (after, last, count, read, asked, so, says))) =
     then_more (begun_so is_up is_sound holds block others wanted was mid x at by pass is)
     (at_last_more pass after.enrolled last at y (ended_there _ last.is_there (open_well _ _ _ (sym so ∙ well))) asked)
-run_so is_up is_sound holds block before others wanted by was mid keep x at y lines (Err why) ended well is ((fault, line, so), stores, same) =
+run_so is_up is_sound holds block before others wanted by was mid keep x at y lines (Err why) ended well is (line, so, stores, same) =
     absurd (ok_err _ (sym well ∙ so))
 
 -- and one that ended since gear share an address, as none does that stops for a fault
@@ -90,12 +90,12 @@ unfolding failed
 run_shared is_up is_sound holds block before others wanted by was mid keep x at y lines (Ok (begun.Addressed replies)) ended shared is
     (says, so, stores, same) = absurd (no_stranger (sym so ∙ shared))
 run_shared is_up is_sound holds block before others wanted by was mid keep x at y lines (Ok (begun.Commissioned pass)) ended shared is
-    (inl (fault, line, so)) = absurd (no_fault fault line (sym so ∙ shared))
+    (inl (fault, line, so, cut)) = absurd (no_fault fault line (sym so ∙ shared))
 run_shared is_up is_sound holds block before others wanted by was mid keep x at y lines (Ok (begun.Commissioned pass)) ended shared is
     (inr (aim, (after, last, count, read, asked, so, says))) =
     joined (begun_so is_up is_sound holds block others wanted was mid x at by pass is) (at_last pass after.enrolled last at y asked)
-run_shared is_up is_sound holds block before others wanted by was mid keep x at y lines (Err why) ended shared is ((fault, line, so), stores, same) =
-    absurd (no_fault fault line (sym so ∙ shared))
+run_shared is_up is_sound holds block before others wanted by was mid keep x at y lines (Err why) ended shared is (line, so, stores, same) =
+    absurd (no_fault why line (sym so ∙ shared))
 
 run_more : {S : Type 0} (is_up is_sound : S → Type 0) (holds : S → List Record → Type 0) (block : Block) (told : Said → Type 0)
     (others : List Block) (setup : Setup) (before : Kept) (was keep : S) (x y : Talk) (ended : Result (Unit {0}) Failure)

@@ -22,7 +22,7 @@ use Rattle.dali_commission_tasks.specs.declared.tasks.Task.TheVariants as task
 use Rattle.dali_commission_stores.specs.Calls.{Call, Look, Read}
 use Rattle.dali_commission_stores.specs.declared.records.Seen.{Seen}
 use Rattle.dali_commission_stores.specs.Lent.{IsLent, IsOpened}
-use Rattle.dali_commission_asked.specs.Came.{HasShown, IsCheckOf}
+use Rattle.dali_commission_asked.specs.Came.{IsShowing, IsCheckOf}
 use Rattle.dali_commission_cleared.specs.Clearing.{HasCleared}
 use Rattle.dali_commission_mended.specs.Tellings.{HasRunOver, IsMendOf}
 use Rattle.dali_commission_replaced.specs.Asking.{HasReplaced}
@@ -55,7 +55,7 @@ HasDone is_up is_sound holds kept_of block_of made saw opens remaining contents 
     (talk_of remaining contents y) result (option_map (λ it. string_bytes it) (slice_get records 0))
 HasDone is_up is_sound holds kept_of block_of made saw opens remaining contents told wrote records
     others was now x y result (task.Identify a) =
-    OnOk result (HasShown a (talk_of remaining contents x) (talk_of remaining contents y))
+    IsShowing a result (lines_of y) (talk_of remaining contents x) (talk_of remaining contents y)
 HasDone is_up is_sound holds kept_of block_of made saw opens remaining contents told wrote records
     others was now x y result (task.Table form) =
     (y ≡ x) × OnOk result (HasTabled saw wrote was (only records) form)

@@ -60,7 +60,7 @@ pub given_in : {F K R W : Type 0} (is_up is_sound : K → Type 0) (holds : K →
     (saw : F → Look → Type 0) (opens : F → Seen → K → Type 0) (remaining : R → Option (List ℕ)) (contents : W → Option (List ℕ)) (told : Said → Type 0)
     (a permitted : ℕ) (block : Block) (come : Come) (table others : Kept) (stores : F) (name : List ℕ) (x mid y : DriverLink R W)
     (r : Result Kept Failure) → permitted ≡ a → table ≡ others → block ≡ alone permitted
-    → HasLooked come (talk_of remaining contents x) (talk_of remaining contents mid)
+    → HasLooked a others come (talk_of remaining contents x) (talk_of remaining contents mid)
     → OnOk r (IsLent (IsOpened block_of saw opens stores (new_at name) block)
     (λ from to p q done. OnOk done (HasGivenSo is_up is_sound holds kept_of (block_of from) told permitted table to
     (talk_of remaining contents p) (talk_of remaining contents q))) mid y (Ok (tt {0})))
@@ -70,7 +70,8 @@ given_in is_up is_sound holds kept_of block_of saw opens remaining contents told
     subst (λ (n : ℕ). HasGivenIn is_up is_sound holds kept_of block_of saw opens remaining contents told n come others stores name x y) is
     (subst (λ (t : Kept). HasGivenIn is_up is_sound holds kept_of block_of saw opens remaining contents told permitted come t stores name x y) same (
       mid,
-      looked,
+      subst (λ (n : ℕ). HasLooked n table come (talk_of remaining contents x) (talk_of remaining contents mid)) (sym is)
+          (subst (λ (t : Kept). HasLooked a t come (talk_of remaining contents x) (talk_of remaining contents mid)) (sym same) looked),
       subst (λ (b : Block). IsLent (IsOpened block_of saw opens stores (new_at name) b)
           (λ from to p q done. OnOk done (HasGivenSo is_up is_sound holds kept_of (block_of from) told permitted table to
           (talk_of remaining contents p) (talk_of remaining contents q))) mid y (Ok (tt {0}))) of lent,

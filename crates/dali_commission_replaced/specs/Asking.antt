@@ -16,13 +16,16 @@ use Rattle.dali_commissioning.specs.Runs.{IsRead}
 use Rattle.dali_replacement.specs.declared.come.Come.{Come}
 use Rattle.dali_replacement.specs.declared.come.Come.TheVariants.{Given}
 use Rattle.dali_replacement.specs.Come.{may_be_heard}
-use Rattle.dali_replacement.specs.Permit.{HasGiven, HasLooked, alone}
+use Rattle.dali_replacement.specs.Permit.{HasGiven, HasLooked, IsNotVacant, alone}
+use Rattle.dali_replacement.specs.declared.refusal.ReplaceFault.{ReplaceFault}
 use Rattle.dali_replacement.specs.Standing.{AreHeard, AreThere}
 use Rattle.dali_replacement.specs.Swapping.{address_of, names_of, texts_of}
 use Rattle.dali_replacement.specs.declared.swapping.Swap.{Swap}
 use Rattle.dali_replacement.specs.Tables.{IsGathered, IsComplete}
+use Rattle.dali_commission_said.specs.declared.failure.Failure.{Failure}
 use Rattle.dali_commission_said.specs.declared.progress.Aim.{Aim}
 use Rattle.dali_commission_said.specs.declared.said.Said.{Said}
+use Rattle.dali_commission_said.specs.Failures.{fault_of}
 use Rattle.dali_commission_said.specs.Reports.{heard_of}
 use Rattle.dali_commission_said.specs.Said.{AreTold, WhySaid, heard_said}
 use Rattle.dali_commission_stores.specs.Calls.{Call, Look}
@@ -31,6 +34,7 @@ use Rattle.dali_commission_stores.specs.Lent.{IsLent, IsOpened, AreRead}
 use Rattle.dali_commission_stores.specs.Settled.{IsExchanged}
 use Rattle.dali_commission_stores.specs.Settling.{new_at}
 use Rattle.dali_commission_asked.specs.declared.ending.AtLast.{AtLast}
+use Rattle.dali_commission_asked.specs.Came.{IsCutAs}
 use Rattle.dali_commission_asked.specs.Ending.{HasAskedAtLast, pass_at_last}
 use Rattle.dali_commission_tasks.specs.declared.tasks.Replacement.{Replacement}
 use Rattle.dali_commission_replaced.specs.Finishing.{AreFinished}
@@ -51,6 +55,20 @@ HasAskedOthers a come table gone x y =
     × (length replies ≡ 64)
     × AreHeard table 0 replies at y
     × AreThere 0 gone (places table [] replies)
+
+-- If that fails, what was put is a beginning of it.
+abbrev pub HasNotAskedOthers : ℕ → Come → Kept → Failure → Talk → Talk → Type 0
+HasNotAskedOthers a come table failure x y =
+    ((why : ReplaceFault)
+    × (line : ℕ)
+    × (failure ≡ fault_of a why line)
+    × IsNotVacant a come why x y)
+    ⊎ ((reply : Reply)
+    × (at : Talk)
+    × IsAnswered a reply x at
+    × (may_be_heard come reply ≡ true)
+    × (((line : ℕ) × IsCutAs failure line y)
+    ⊎ ((replies : List Reply) × (length replies ≡ 64) × AreHeard table 0 replies at y)))
 
 -- An exchange that an earlier call has begun is confirmed: the gear of its tables is asked for.
 abbrev pub HasConfirmed : ℕ → List ℕ → List Kept → ℕ → Talk → Talk → Type 0
@@ -100,7 +118,7 @@ abbrev pub HasGivenIn : {F K R W : Type 0} (is_up is_sound : K → Type 0)
 HasGivenIn {R = R} {W = W} is_up is_sound holds kept_of block_of saw opens remaining contents told a
     come table stores name x y =
     (mid : DriverLink R W)
-    × HasLooked come (talk_of remaining contents x) (talk_of remaining contents mid)
+    × HasLooked a table come (talk_of remaining contents x) (talk_of remaining contents mid)
     × IsLent (IsOpened block_of saw opens stores (new_at name) (alone a))
     (λ from to p q done. OnOk done
     (HasGivenSo is_up is_sound holds kept_of (block_of from) told a table to

@@ -1,16 +1,17 @@
 //! `replace` asks the bus: what is there before the address is given, and before anything is said of it.
 
-ghost use Rattle.std.specs.Prelude.{◌≡◌, IfOk, Result};
+ghost use Rattle.std.specs.Prelude.{◌≡◌, ℕ, IfOk, IfErr, Result};
 ghost use Rattle.dali_commissioning.specs.declared.census.Reply.{Reply};
 ghost use Rattle.dali_commissioning.specs.declared.census.Reply.TheVariants as heard;
 ghost use Rattle.dali_commissioning.specs.declared.fault.CommissionFault.{CommissionFault};
 ghost use Rattle.dali_commissioning.specs.Census.{IsAnswered};
-ghost use Rattle.dali_commissioning.specs.Drivers.{talk_of, lines_of};
+ghost use Rattle.dali_commissioning.specs.Drivers.{talk_of, lines_of, IsCut};
 ghost use Rattle.dali_replacement.specs.Permit.{others_at, others_come, others_table, confirmed_at, confirmed_random};
-ghost use Rattle.dali_replacement.specs.Permit.{confirmed_table};
+ghost use Rattle.dali_replacement.specs.Permit.{confirmed_table, IsNotConfirmed};
+ghost use Rattle.dali_replacement.specs.declared.refusal.ReplaceFault.{ReplaceFault};
 ghost use Rattle.dali_replacement.specs.Tables.{AreGiven};
 ghost use Rattle.dali_commission_said.specs.Failures.{fault_of, not_given};
-ghost use Rattle.dali_commission_replaced.specs.Asking.{HasAskedOthers};
+ghost use Rattle.dali_commission_replaced.specs.Asking.{HasAskedOthers, HasNotAskedOthers};
 ghost use Rattle.dali_commission_replaced.specs.Tellings.{ConfirmedTold, gear_in};
 
 use arrayvec::ArrayVec;
@@ -91,6 +92,8 @@ impl<S: Voice> Asking<'_, S> {
         ensures short { IfOk result (λ others. others_at others ≡ self.now.wanted.now.short) }
         ensures come { IfOk result (λ others. others_come others ≡ come) }
         ensures table { IfOk result (λ others. others_table others ≡ table) }
+        ensures failed { IfErr result (λ failure. HasNotAskedOthers self.now.wanted.now.short come table failure
+            (talk_of R.remaining W.contents driver.old) (talk_of R.remaining W.contents driver.new)) }
     {
         if self.manner != Manner::Quiet {
             say(self.system, &Said::AsksTables);
@@ -117,7 +120,8 @@ impl<S: Voice> Asking<'_, S> {
         ensures { (heard : Result Reply CommissionFault)
             × IfOk heard (λ reply. IsAnswered self.now.wanted.now.short reply
             (talk_of R.remaining W.contents driver.old) (talk_of R.remaining W.contents driver.new))
-            × (result ≡ not_given self.now.wanted.now.short heard (lines_of driver.new)) }
+            × (result ≡ not_given self.now.wanted.now.short heard (lines_of driver.new))
+            × IfErr heard (λ reason. IsCut reason (talk_of R.remaining W.contents driver.new)) }
     {
         match ask(driver, self.wanted.short) {
             Ok(Reply::Silence | Reply::Random(_)) => self.refusal(ReplaceRefusal::NotGiven),
@@ -140,6 +144,10 @@ impl<S: Voice> Asking<'_, S> {
         ensures given { IfOk result (λ seen. AreGiven (others_at others) (confirmed_random seen) news.now) }
         ensures short { IfOk result (λ seen. confirmed_at seen ≡ others_at others) }
         ensures table { IfOk result (λ seen. confirmed_table seen ≡ others_table others) }
+        ensures failed { IfErr result (λ failure. (why : ReplaceFault) × (line : ℕ)
+            × (failure ≡ fault_of self.now.wanted.now.short why line)
+            × IsNotConfirmed (others_at others) news.now why
+            (talk_of R.remaining W.contents driver.old) (talk_of R.remaining W.contents driver.new)) }
     {
         match Confirmed::ask(driver, others, news) {
             Ok(confirmed) => Ok(confirmed),

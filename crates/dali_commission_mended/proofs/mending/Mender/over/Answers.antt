@@ -1,12 +1,12 @@
 use Rattle.std.proofs.Common.{◌∙◌, ap, subst, [], ◌∷◌, ◌++◌}
 use Rattle.dali_replacement.specs.Tables.{IsGathered, AreOf}
 use Rattle.dali_commission_mended.specs.Tellings.{AreMendsTold}
-use Rattle.dali_commission_mended.proofs.Mended.{mended_well}
+use Rattle.dali_commission_mended.proofs.Mended.{mended_so}
 use Rattle.dali_commission_mended.proofs.mending.Mender.over.Goals as goal
 
 pub returns : goal.returns
 returns g c =
-    mended_well _ _ _ _ _ (g.K.Keep.block c.kept.new.store) _ _ _ _ _ _ _ _ _ _ _ _ _ _ _ c.came_to_or_not-came.result.ended c.told.result
+    mended_so _ _ _ _ _ (g.K.Keep.block c.kept.new.store) _ _ _ _ _ _ _ _ _ _ _ _ _ _ _ c.came_to_or_not-came.result.ended c.told.result
     c.in_ok-before.ensures.block c.in_ok-before.ensures.read
     (subst (λ ts. IsGathered 64 ts c.in-Ok.table)
     (c.deref.ensures.value ∙ c.in_ok-add.ensures ∙ ap (λ k. c.args.self.tables.items ++ k ∷ []) c.copy.ensures) c.in-Ok.ensures.all)
