@@ -7,3 +7,4 @@ mod Truths
 mod Asides
 mod Apart
 mod System
+mod Machines

@@ -17,7 +17,8 @@ ghost use Rattle.dali_folder_laws.specs.Folder.{Folder, IsAfter, IsCalled, Leave
 ghost use Rattle.dali_folder_laws.specs.Moments.{Itself, Journal, IsPart, Differ, MayBegin, Files, IsBefore, IsBehind};
 ghost use Rattle.dali_folder_laws.specs.Moments.{IsAt, IsAtSome, AllOld, AllNew, AllAnnounced};
 ghost use Rattle.dali_folder_laws.specs.Stops.{Program, starting, Sees, Exchanges, Settles, SettleOften, ended_as};
-ghost use Rattle.dali_folder_laws.specs.System.{but_for, asked_by, AreFit, IsThere};
+ghost use Rattle.dali_folder_laws.specs.System.{but_for, asked_by, AreFit, IsThere, Machine, Fits, MachineExchanges};
+ghost use Rattle.dali_folder_laws.specs.System.{MachineSettles, MachinesSettle};
 ghost use Rattle.dali_commission_stores.specs.Calls.{Call};
 
 /// AN EXCHANGE OVER A CRASH. An exchange is begun and stopped at any of its calls; so are any programs that settle it,
@@ -88,4 +89,15 @@ pub fn the_system_leaves_what_a_stop_leaves()
         → AreFit passing part log call → IsSettled was → IsThere call was.holds
         → Happen (asked_by part log call) was now
         → IsSettled now × IsAfter call (but_for passing was.holds) (but_for passing now.holds) }
+{}
+
+/// AN EXCHANGE OVER A CRASH OF THE SYSTEM. Machines exchange files and settle that, each of which may stop within what
+/// any call asks of the system, and starts anew from what its disk has. One that does not stop ends it, on the disk:
+/// with each file exchanged, or as before.
+pub fn an_exchange_ends_over_every_crash()
+    ensures { (passing : List ℕ → Bool) (part log : List ℕ → List ℕ) (swap : Swap) (files : Files) (often : ℕ)
+        (x z : Folders) (y w : Machine) (done : Bool) → MayBegin swap → Fits passing part log swap → IsSettled x
+        → IsBefore swap files (but_for passing x.holds) → MachineExchanges part log swap x y
+        → MachinesSettle part log swap often y.folders z → MachineSettles part log swap z w done → w.runs ≡ true
+        → IsSettled w.folders × ended_as swap files done (but_for passing w.folders.holds) }
 {}
