@@ -6,6 +6,12 @@ use Rattle.sqlite.specs.declared.error.Error.{Error}
 use Rattle.dali_reserve.specs.declared.error.KeepError.TheVariants.{NoMemory}
 use Rattle.dali_commission_said.specs.declared.failure.StoreFault.{StoreFault}
 use Rattle.dali_commission_said.specs.declared.failure.StoreFault.TheVariants.{Store}
+use Rattle.std.specs.declared.alloc.Global.{Global}
+use Rattle.std.specs.declared.string.String.{String}
+use Rattle.std.specs.Prelude.{string_bytes}
+use Rattle.dali_script.specs.Records.{Kept}
+use Rattle.dali_commission_stores.specs.Calls.{Look, Read}
+use Rattle.dali_commission_stores.specs.Lent.{AreRead}
 use Rattle.dali_commission_files.specs.Faults.{closed_fault, IsUnread, IsUnwritten, IsUnopened}
 use Rattle.dali_commission_files.specs.Logs.{IsDamaged}
 use Rattle.dali_commission_files.specs.Opened.{names_of}
@@ -45,3 +51,16 @@ IsFine (Err error) = ⊥
 
 pub not_both : {T E : Type 0} (r : Result T E) (it : T) (error : E) → r ≡ Ok it → r ≡ Err error → ⊥
 not_both r it error ok err = subst IsFine (sym ok ∙ err) tt
+
+-- records that were read are those of a look that shows them
+module _ {F : Type 0} (saw : F → Look → Type 0) (at : F) (so : (name : List ℕ) (kept : Kept) → saw at (Read name kept)) where
+  read_so : (names : List (String Global)) (before after : List Kept) → AreRead {F = Unit {0}} (λ _ _. Unit {0}) tt names before after
+      → AreRead saw at names before after
+  read_so [] before after read = read
+  read_so (name ∷ names) before after (kept, _, read) = (kept, so (string_bytes name) kept, read_so names (before ++ kept ∷ []) after read)
+
+  pub read_held : (names : List (String Global)) (before after all : List Kept) → before ≡ [] → all ≡ after
+      → AreRead {F = Unit {0}} (λ _ _. Unit {0}) tt names before after → AreRead saw at names [] all
+  read_held names before after all none is read =
+      subst (λ (kept : List Kept). AreRead saw at names [] kept) (sym is)
+      (subst (λ (kept : List Kept). AreRead saw at names kept after) none (read_so names before after read))

@@ -345,7 +345,7 @@ fn open_all<'a, F, D, H: Holder<F, D>>(
     held: &mut Open<'a>,
     all: &mut Vec<Kept>,
 ) -> Result<(), Failure>
-    ensures read { (at : F) → OnOk result (AreRead (λ _ _. Unit {0}) at names.now all.old.items all.new.items) }
+    ensures read { OnOk result (AreRead {F = Unit {0}} (λ _ _. Unit {0}) tt names.now all.old.items all.new.items) }
     ensures refused { IfErr result (λ failure. (it : StoreFault) × IsUnheld it × (failure ≡ Failure.Store it)) }
 {
     let [name, more @ ..] = names else {
