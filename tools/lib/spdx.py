@@ -12,6 +12,7 @@ from lib import ROOT, packing
 NAME = "dali_c.spdx.json"
 EITHER = "MIT OR Apache-2.0"
 NOT_SAID = "NOASSERTION"
+TYPES = {".a": "ARCHIVE", ".ll": "SOURCE"}
 SPACE = "https://yolgibat.example/spdx"
 
 
@@ -29,7 +30,7 @@ def library(name: str, content: bytes) -> dict[str, typing.Any]:
     """A file with its sums."""
     sums = [{"algorithm": it.upper(), "checksumValue": hashlib.new(it, content).hexdigest()} for it in ("sha1", "sha256")]
     said = {"licenseConcluded": EITHER, "licenseInfoInFiles": [NOT_SAID], "copyrightText": NOT_SAID}
-    return {"SPDXID": identity(name), "fileName": f"./{name}", "fileTypes": ["ARCHIVE"], "checksums": sums, **said}
+    return {"SPDXID": identity(name), "fileName": f"./{name}", "fileTypes": [TYPES[name[name.rindex(".") :]]], "checksums": sums, **said}
 
 
 def listed(version: str, crates: collections.abc.Iterable[str], files: packing.Files) -> packing.Entry:
@@ -38,7 +39,7 @@ def listed(version: str, crates: collections.abc.Iterable[str], files: packing.F
     has_licence = {name.split("/")[1] for name in files if name.count("/") == 2 and name.startswith("licences/")}
     own = part("dali_c", version, EITHER)
     others = [part(it, kit, EITHER if it in has_licence else NOT_SAID) for it in crates]
-    libraries = [library(name, it.content) for name, it in sorted(files.items()) if name.endswith(".a")]
+    libraries = [library(name, it.content) for name, it in sorted(files.items()) if name.endswith(tuple(TYPES))]
     pairs = [("SPDXRef-DOCUMENT", "DESCRIBES", own["SPDXID"])]
     for one in libraries:
         pairs.append((own["SPDXID"], "CONTAINS", one["SPDXID"]))

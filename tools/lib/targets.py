@@ -66,6 +66,13 @@ TARGETS = {
     "riscv32": Target("riscv32-unknown-elf", ["-march=rv32imac", "-mabi=ilp32"], *LINUX, ["qemu-riscv32"], "qemu-user"),
 }
 KIT = TARGETS["x86_64-linux"]
+# The library as LLVM reads it, for whichever clang: by how many bits a pointer has, the processor by whose layout of data it is written.
+PORTABLE = {"64": "aarch64-linux", "32": "riscv32"}
+# Processors that no archive is for, by which it is tried; the first one is run.
+OTHERS = {
+    "riscv64": ("64", Target("riscv64-unknown-elf", ["-march=rv64imac", "-mabi=lp64", "-mcmodel=medany"], *LINUX, ["qemu-riscv64"], "qemu-user")),
+    "armv7a": ("32", Target("armv7a-none-eabi", ["-mfloat-abi=soft", "-mfpu=none"], *LINUX, [])),
+}
 # Every browser: what tools/web makes of dali_web.
 WASM = Target("wasm32-unknown-unknown", ["-mbulk-memory"], [], [], [])
 # What instructions are counted on: two of these, and a processor between them.
@@ -227,6 +234,32 @@ def retargeted(target: Target, module: pathlib.Path, folder: pathlib.Path, marks
     text = re.sub(rf"^(attributes #.*){unmarked}", r"\1", text, flags=re.M)
     of_functions = "|".join(set(re.findall(r"^define .*\) #(\d+)", text, re.M)))
     return re.sub(rf"^(attributes #(?:{of_functions}) = \{{)", rf"\1 {' '.join(marks)}", text, flags=re.M)
+
+
+def layout_of(target: Target, folder: pathlib.Path) -> str:
+    """The line of LLVM's text that says how data lie in memory on a processor."""
+    (folder / "empty.c").write_text("")
+    lines = as_text([f"--target={target.triple}", *target.words, folder / "empty.c"], folder / "empty.ll")
+    return re.search(r"^target datalayout = .*$", lines, re.M)[0]
+
+
+def portable(width: str, module: pathlib.Path, folder: pathlib.Path) -> str:
+    """LLVM's text of the library for each little-endian processor whose pointers have so many bits: it names none, nor a file."""
+    text = retargeted(TARGETS[PORTABLE[width]], module, folder, [])
+    return re.sub(r"^(?:target |; ModuleID|source_filename).*\n", "", text, flags=re.M)
+
+
+def of_portable(name: str, module: pathlib.Path, folder: pathlib.Path) -> pathlib.Path:
+    """The library as an object for a processor that no archive is for."""
+    width, target = OTHERS[name]
+    text, source = portable(width, module, folder), folder / "portable.ll"
+    ours, theirs = (layouts.layout(layout_of(it, folder).split('"')[1]) for it in (TARGETS[PORTABLE[width]], target))
+    try:
+        layouts.judge(text, ours, theirs)
+    except layouts.Refused as refused:
+        raise Failed(f"the library lies otherwise in memory on {name}: {refused}") from None
+    source.write_text(text)
+    return compiled(target, ["-Os", "-x", "ir", "-Wno-override-module"], source, folder / "library.o")
 
 
 def compiled(

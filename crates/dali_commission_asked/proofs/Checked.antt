@@ -1,8 +1,8 @@
 use Rattle.std.proofs.Common.{◌≡◌, ◌∙◌, ap, inl, inr, ℕ, Bool, List, Option, Some, Result, Ok, Err, subst}
-use Rattle.std.specs.Prelude.{IfOk}
+use Rattle.std.specs.Prelude.{IfOk, IfErr}
 use Rattle.dali_script.specs.{declared.block.Block.Block, declared.records.Record.Record, Records.Kept}
 use Rattle.dali_commissioning.specs.declared.{beginning.Checked.Checked, driver.DriverLink.DriverLink, fault.CommissionFault.CommissionFault}
-use Rattle.dali_commissioning.specs.{Drivers.{Talk, has_heard, lines_of, talk_of}, Runs.{IsChecked, IsRead}}
+use Rattle.dali_commissioning.specs.{Drivers.{Talk, has_heard, lines_of, talk_of, IsCutBeside}, Runs.{IsChecked, IsRead}}
 use Rattle.dali_commission_said.specs.{declared.failure.Failure.Failure, declared.said.Said.Said, Said.AreTold}
 use Rattle.dali_commission_stores.specs.{Calls.{Look}, Lent.{IsLent, IsCopied}}
 use Rattle.dali_commission_asked.specs.Came.{check_ended, check_said, HasAskedAll, HasChecked, IsCheckOf}
@@ -18,9 +18,9 @@ pub has_checked : {S : Type 0} (is_up is_sound : S → Type 0) (holds : S → Li
     (others : List Block) (was keep : S) (heard : Bool) (line : ℕ) (x y : Talk) (found : Result Checked CommissionFault) (lines : List Said)
     (ended result : Result (Unit {0}) Failure) → IfOk found (IsChecked is_up is_sound holds block others was keep x y)
     → ended ≡ check_ended found others heard line → lines ≡ check_said found others → AreTold told lines → result ≡ ended
-    → HasChecked (IsRead is_up is_sound holds block was keep) told others heard line x y result
-has_checked is_up is_sound holds block told others was keep heard line x y found lines ended result is ends says tells same =
-    (found, asked_all is_up is_sound holds block others was keep x y found is, same ∙ ends, subst (λ (l : List Said). AreTold told l) says tells)
+    → IfErr found (λ reason. IsCutBeside reason x y) → HasChecked (IsRead is_up is_sound holds block was keep) told others heard line x y result
+has_checked is_up is_sound holds block told others was keep heard line x y found lines ended result is ends says tells same cut =
+    (found, asked_all is_up is_sound holds block others was keep x y found is, same ∙ ends, subst (λ (l : List Said). AreTold told l) says tells, cut)
 
 -- and it is one beside records that are so if these are
 beside_so : (beside besides : Kept → Type 0) (others : List Block) (x y : Talk) (found : Result Checked CommissionFault)
@@ -32,7 +32,7 @@ beside_so beside besides others x y (Err fault) so is = tt
 pub checked_beside : (beside besides : Kept → Type 0) (told : Said → Type 0) (others : List Block) (heard : Bool) (line : ℕ) (x y : Talk)
     (result : Result (Unit {0}) Failure) → ((k : Kept) → beside k → besides k) → HasChecked beside told others heard line x y result
     → HasChecked besides told others heard line x y result
-checked_beside beside besides told others heard line x y result so is = (is.0, beside_so beside besides others x y is.0 so is.1, is.2, is.3)
+checked_beside beside besides told others heard line x y result so is = (is.0, beside_so beside besides others x y is.0 so is.1, is.2, is.3, is.4)
 
 pub check_of : {F K R W : Type 0} (is_up is_sound : K → Type 0) (holds : K → List Record → Type 0) (block : K → Block) (saw : F → Look → Type 0)
     (remaining : R → Option (List ℕ)) (contents : W → Option (List ℕ)) (told : Said → Type 0) (others : List Block) (stores : F) (name : List ℕ)

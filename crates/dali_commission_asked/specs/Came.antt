@@ -1,6 +1,7 @@
-use Rattle.std.specs.Prelude.{◌≡◌, ◌⊎◌, ℕ, ◌*◌, Bool, false, List, [], ◌∷◌, length, Option, Some}
-use Rattle.std.specs.Prelude.{None, Result, Ok, Err, IfOk, IsErr}
+use Rattle.std.specs.Prelude.{◌≡◌, ◌⊎◌, ℕ, ◌*◌, Bool, true, false, List, [], ◌∷◌, length, Option}
+use Rattle.std.specs.Prelude.{Some, None, Result, Ok, Err, IfOk, IfErr, IsErr}
 use Rattle.std.specs.List.{list_any}
+use Rattle.std.specs.Io.KnownBytes.{Appends}
 use Rattle.dali_script.specs.declared.block.Block.{Block}
 use Rattle.dali_script.specs.declared.orders.Input.{Input}
 use Rattle.dali_script.specs.declared.sending.Half.TheVariants as half
@@ -11,10 +12,13 @@ use Rattle.dali_commissioning.specs.declared.fault.CommissionFault.{CommissionFa
 use Rattle.dali_commissioning.specs.declared.verdict.Place.{Place}
 use Rattle.dali_commissioning.specs.declared.census.Reply.{Reply}
 use Rattle.dali_commissioning.specs.Census.{IsPut, IsAnswered, AreCounted, is_sent, is_silent}
-use Rattle.dali_commissioning.specs.Drivers.{Talk}
+use Rattle.dali_commissioning.specs.Drivers.{Talk, IsCut, IsCutBeside}
+use Rattle.dali_commissioning.specs.Lines.{put_text}
+use Rattle.dali_commissioning.specs.declared.driver.DriverFault.{DriverFault}
 use Rattle.dali_commissioning.specs.Places.{places}
 use Rattle.dali_commissioning.specs.Unaddressed.{AreLeftOver, asking}
 use Rattle.dali_commission_said.specs.declared.failure.Failure.{Failure}
+use Rattle.dali_commission_said.specs.declared.failure.Failure.TheVariants.{NobodyThere}
 use Rattle.dali_commission_said.specs.declared.said.Said.{Said}
 use Rattle.dali_commission_said.specs.Failures.{checked, failure_of}
 use Rattle.dali_commission_said.specs.Reports.{checked_said}
@@ -81,6 +85,34 @@ HasShown a x y =
     × (is_silent heard ≡ false)
     × HasBlinked a (1 ∷ 2 ∷ 3 ∷ 4 ∷ 5 ∷ []) at y
 
+-- IT IS CUT SHORT, at a line of the driver: by its fault, or a frame was lost again and again
+abbrev pub IsCutAs : Failure → ℕ → Talk → Type 0
+IsCutAs failure line y =
+    (reason : CommissionFault) × IsCut reason y × (failure ≡ failure_of reason line)
+
+-- WHAT IS PUT IF IT IS NOT SHOWN: no gear answers; or it was cut short, and the last line is the
+-- one that makes it bright
+abbrev pub IsNotThere : ℕ → Failure → ℕ → Talk → Talk → Type 0
+IsNotThere a failure line x y =
+    IsCutAs failure line y
+    ⊎ ((heard : Reply)
+    × IsAnswered a heard x y
+    × (is_silent heard ≡ true)
+    × (failure ≡ NobodyThere a))
+
+abbrev pub IsBrightAtLast : ℕ → Talk → Talk → Type 0
+IsBrightAtLast a at y =
+    (Appends at.written y.written (put_text 2 (frame (2 * a) 254) half.Whole) × (y.fault ≡ None))
+    ⊎ ((f : DriverFault) × (y.fault ≡ Some f))
+
+abbrev pub IsShowing : ℕ → Result (Unit {0}) Failure → ℕ → Talk → Talk → Type 0
+IsShowing a (Ok done) line x y = HasShown a x y
+IsShowing a (Err failure) line x y =
+    IsNotThere a failure line x y
+    ⊎ ((at : Talk)
+    × ((before : ℕ) × IsCutAs failure before at)
+    × IsBrightAtLast a at y)
+
 -- WHAT A CHECK PUTS: each short address is asked but those in the blocks of others, and then gear
 -- that have none
 abbrev pub HasAskedAll : List Block → Checked → Talk → Talk → Type 0
@@ -91,7 +123,7 @@ HasAskedAll others found x y =
     × (length found.replies.items ≡ 64)
     × AreLeftOver asking found.has_unaddressed at y
 
--- A CHECK beside these records ends by what it found, and has said that
+-- A CHECK beside these records ends by what it found, and has said that; or it was cut short
 abbrev pub HasChecked : (Kept → Type 0) → (Said → Type 0) → List Block → Bool → ℕ → Talk → Talk
     → Result (Unit {0}) Failure → Type 0
 HasChecked beside told others heard line x y ended =
@@ -99,6 +131,7 @@ HasChecked beside told others heard line x y ended =
     × IfOk found (λ it. beside it.kept × HasAskedAll others it x y)
     × (ended ≡ check_ended found others heard line)
     × AreTold told (check_said found others)
+    × IfErr found (λ reason. IsCutBeside reason x y)
 
 -- It is one beside no records, or beside those of a name as they were seen, if they can be had.
 abbrev pub no_records : Kept

@@ -1,9 +1,9 @@
 //! `check`: it is said which gear answer, beside the records.
 
-ghost use Rattle.std.specs.Prelude.{◌≡◌, Result, IfOk, option_map};
+ghost use Rattle.std.specs.Prelude.{◌≡◌, Result, IfOk, IfErr, option_map};
 ghost use Rattle.dali_commissioning.specs.declared.beginning.Checked.{Checked};
 ghost use Rattle.dali_commissioning.specs.declared.fault.CommissionFault.{CommissionFault};
-ghost use Rattle.dali_commissioning.specs.Drivers.{talk_of, has_heard, lines_of};
+ghost use Rattle.dali_commissioning.specs.Drivers.{talk_of, has_heard, lines_of, IsCutBeside};
 ghost use Rattle.dali_commissioning.specs.Runs.{IsChecked};
 ghost use Rattle.dali_commission_asked.specs.Came.{check_ended, check_said, check_places, HasChecked, IsCheckOf};
 ghost use Rattle.dali_commission_asked.specs.Came.{no_records};
@@ -56,7 +56,9 @@ fn checked_over<K: Keep, R: Read, W: Write>(
         (talk_of R.remaining W.contents driver.old) (talk_of R.remaining W.contents driver.new))
         × (result.ended ≡ check_ended found others.now (has_heard driver.new) (lines_of driver.new))
         × (result.report.said.items ≡ check_said found others.now)
-        × (result.report.places.items ≡ check_places found others.now) }
+        × (result.report.places.items ≡ check_places found others.now)
+        × IfErr found (λ reason. IsCutBeside reason (talk_of R.remaining W.contents driver.old)
+        (talk_of R.remaining W.contents driver.new)) }
 {
     let found = check(store, driver, others);
     came_of(&found, others, driver.has_heard(), driver.lines())

@@ -1,8 +1,8 @@
 //! What is asked at the end of a task: whether any gear answers, since silence looks like gear that are not there if
 //! the bus fails on the way; and again the short addresses that a survey left alone.
 
-ghost use Rattle.std.specs.Prelude.{◌≡◌, ◌++◌, IfOk};
-ghost use Rattle.dali_commissioning.specs.Drivers.{talk_of, has_heard};
+ghost use Rattle.std.specs.Prelude.{◌≡◌, ◌++◌, IfOk, IfErr};
+ghost use Rattle.dali_commissioning.specs.Drivers.{talk_of, has_heard, IsCut};
 ghost use Rattle.dali_script.specs.Records.{addresses};
 ghost use Rattle.dali_commission_asked.specs.Ending.{AnswersAt, IsAnyAt, HasAsked, all_if, with_reply, IsAskedAgain};
 ghost use Rattle.dali_commission_asked.specs.Ending.{AreAskedAgain, HasAskedAtLast, is_asked, OrUnaddressed, ended_by};
@@ -25,8 +25,9 @@ fn answers<R: Read, W: Write>(
     driver: &mut DriverLink<R, W>,
     number: u8,
 ) -> Result<bool, CommissionFault>
-    ensures { IfOk result (λ found. AnswersAt number found
+    ensures asked { IfOk result (λ found. AnswersAt number found
         (talk_of R.remaining W.contents driver.old) (talk_of R.remaining W.contents driver.new)) }
+    ensures failed { IfErr result (λ reason. IsCut reason (talk_of R.remaining W.contents driver.new)) }
 {
     let Some(short) = Short::of(number) else {
         return Ok(false);
@@ -42,8 +43,9 @@ fn is_any_at<R: Read, W: Write>(
     pairs: &[Pair],
     numbers: &[u8],
 ) -> Result<bool, CommissionFault>
-    ensures { IfOk result (λ found. IsAnyAt (addresses pairs.now ++ numbers.now) found
+    ensures asked { IfOk result (λ found. IsAnyAt (addresses pairs.now ++ numbers.now) found
         (talk_of R.remaining W.contents driver.old) (talk_of R.remaining W.contents driver.new)) }
+    ensures failed { IfErr result (λ reason. IsCut reason (talk_of R.remaining W.contents driver.new)) }
 {
     match (pairs, numbers) {
         ([], []) => Ok(false),
@@ -92,8 +94,9 @@ fn or_unaddressed<R: Read, W: Write>(
     ended: Ended,
     is_one: bool,
 ) -> Result<bool, CommissionFault>
-    ensures { IfOk result (λ found. OrUnaddressed ended is_one found
+    ensures asked { IfOk result (λ found. OrUnaddressed ended is_one found
         (talk_of R.remaining W.contents driver.old) (talk_of R.remaining W.contents driver.new)) }
+    ensures failed { IfErr result (λ reason. IsCut reason (talk_of R.remaining W.contents driver.new)) }
 {
     match ended {
         Ended::Done(End::GaveUp) if !is_one => has_unaddressed(driver),
@@ -109,8 +112,9 @@ fn is_any_there<R: Read, W: Write>(
     pass: &PassEnd,
     kept: &Kept,
 ) -> Result<bool, CommissionFault>
-    ensures { IfOk result (λ found. HasAsked pass.now kept.now.enrolled (has_heard driver.old) found
+    ensures asked { IfOk result (λ found. HasAsked pass.now kept.now.enrolled (has_heard driver.old) found
         (talk_of R.remaining W.contents driver.old) (talk_of R.remaining W.contents driver.new)) }
+    ensures failed { IfErr result (λ reason. IsCut reason (talk_of R.remaining W.contents driver.new)) }
 {
     if !is_asked(pass) {
         return Ok(false);
@@ -141,8 +145,9 @@ fn ask_one_again<R: Read, W: Write>(
     number: u8,
     before: Left,
 ) -> Result<Left, CommissionFault>
-    ensures { IfOk result (λ left. IsAskedAgain number before left
+    ensures asked { IfOk result (λ left. IsAskedAgain number before left
         (talk_of R.remaining W.contents driver.old) (talk_of R.remaining W.contents driver.new)) }
+    ensures failed { IfErr result (λ reason. IsCut reason (talk_of R.remaining W.contents driver.new)) }
 {
     let Some(short) = Short::of(number) else {
         return Ok(before);
@@ -159,8 +164,9 @@ fn ask_again<R: Read, W: Write>(
     numbers: &[u8],
     before: Left,
 ) -> Result<Left, CommissionFault>
-    ensures { IfOk result (λ left. AreAskedAgain numbers.now before left
+    ensures asked { IfOk result (λ left. AreAskedAgain numbers.now before left
         (talk_of R.remaining W.contents driver.old) (talk_of R.remaining W.contents driver.new)) }
+    ensures failed { IfErr result (λ reason. IsCut reason (talk_of R.remaining W.contents driver.new)) }
 {
     let [number, more @ ..] = numbers else {
         return Ok(before);
@@ -208,8 +214,9 @@ pub fn ask_at_last<R: Read, W: Write>(
     pass: &PassEnd,
     kept: &Kept,
 ) -> Result<AtLast, CommissionFault>
-    ensures { IfOk result (λ last. HasAskedAtLast pass.now kept.now.enrolled last
+    ensures asked { IfOk result (λ last. HasAskedAtLast pass.now kept.now.enrolled last
         (talk_of R.remaining W.contents driver.old) (talk_of R.remaining W.contents driver.new)) }
+    ensures failed { IfErr result (λ reason. IsCut reason (talk_of R.remaining W.contents driver.new)) }
 {
     let is_there = is_any_there(driver, pass, kept)?;
     if !is_there {

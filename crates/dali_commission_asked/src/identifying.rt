@@ -1,10 +1,12 @@
 //! `identify`: a gear goes bright and dark.
 
-ghost use Rattle.std.specs.Prelude.{◌≡◌, false, IfOk, OnOk};
+ghost use Rattle.std.specs.Prelude.{◌≡◌, ◌⊎◌, true, false, not, [], IfOk, IfErr, OnOk};
 ghost use Rattle.dali_commissioning.specs.declared.census.Reply.{Reply};
 ghost use Rattle.dali_commissioning.specs.Census.{IsAnswered, is_silent};
-ghost use Rattle.dali_commissioning.specs.Drivers.{talk_of};
-ghost use Rattle.dali_commission_asked.specs.Came.{IsLit, IsLitBy, IsLitOnce, HasBlinked, HasShown};
+ghost use Rattle.dali_commissioning.specs.Drivers.{talk_of, is_lost, lines_of};
+ghost use Rattle.dali_commission_said.specs.declared.failure.Failure.TheVariants.{GaveUp};
+ghost use Rattle.dali_commission_asked.specs.Came.{IsLit, IsLitBy, IsLitOnce, HasBlinked, IsCutAs, IsNotThere};
+ghost use Rattle.dali_commission_asked.specs.Came.{IsShowing};
 
 use dali_commission_said::{Came, Failure, Report, Voice, failure_of};
 use dali_commissioning::{CommissionFault, DriverLink, Reply, ask, light, light_at_last};
@@ -32,7 +34,10 @@ fn lit_once<R: Read, W: Write>(
     short: Short,
     level: u8,
 ) -> Result<bool, Failure>
-    ensures { IfOk result (λ sent. IsLitOnce short level sent (talk_of R.remaining W.contents driver.old)
+    ensures lit { IfOk result (λ sent. IsLitOnce short level sent (talk_of R.remaining W.contents driver.old)
+        (talk_of R.remaining W.contents driver.new)) }
+    ensures lost { IfOk result (λ sent. is_lost driver.new ≡ not sent) }
+    ensures failed { IfErr result (λ failure. IsCutAs failure (lines_of driver.new)
         (talk_of R.remaining W.contents driver.new)) }
 {
     match light(driver, short, level) {
@@ -48,8 +53,10 @@ fn lit_by<R: Read, W: Write>(
     level: u8,
     tries: &[u8],
 ) -> Result<(), Failure>
-    ensures { OnOk result (IsLitBy short level tries.now (talk_of R.remaining W.contents driver.old)
+    ensures lit { OnOk result (IsLitBy short level tries.now (talk_of R.remaining W.contents driver.old)
         (talk_of R.remaining W.contents driver.new)) }
+    ensures failed { IfErr result (λ failure. ((tries.now ≡ []) × (failure ≡ GaveUp) × (driver.new ≡ driver.old))
+        ⊎ IsCutAs failure (lines_of driver.new) (talk_of R.remaining W.contents driver.new)) }
 {
     let [_, more @ ..] = tries else {
         return Err(Failure::GaveUp);
@@ -67,7 +74,9 @@ fn lit<R: Read, W: Write>(
     short: Short,
     level: u8,
 ) -> Result<(), Failure>
-    ensures { OnOk result (IsLit short level (talk_of R.remaining W.contents driver.old)
+    ensures lit { OnOk result (IsLit short level (talk_of R.remaining W.contents driver.old)
+        (talk_of R.remaining W.contents driver.new)) }
+    ensures failed { IfErr result (λ failure. IsCutAs failure (lines_of driver.new)
         (talk_of R.remaining W.contents driver.new)) }
 {
     lit_by(driver, short, level, &TRIES)
@@ -80,7 +89,9 @@ fn blinks<S: Clock, R: Read, W: Write>(
     short: Short,
     times: &[u8],
 ) -> Result<(), Failure>
-    ensures { OnOk result (HasBlinked short times.now (talk_of R.remaining W.contents driver.old)
+    ensures shown { OnOk result (HasBlinked short times.now (talk_of R.remaining W.contents driver.old)
+        (talk_of R.remaining W.contents driver.new)) }
+    ensures failed { IfErr result (λ failure. IsCutAs failure (lines_of driver.new)
         (talk_of R.remaining W.contents driver.new)) }
 {
     lit(driver, short, BRIGHT)?;
@@ -105,9 +116,11 @@ pub fn is_silent(reply: Reply) -> bool
 
 /// A gear answers to a short address; or why the gear is not shown.
 fn is_there<R: Read, W: Write>(driver: &mut DriverLink<R, W>, short: Short) -> Result<(), Failure>
-    ensures { OnOk result ((heard : Reply) × IsAnswered short heard
+    ensures heard { OnOk result ((heard : Reply) × IsAnswered short heard
         (talk_of R.remaining W.contents driver.old) (talk_of R.remaining W.contents driver.new)
         × (is_silent heard ≡ false)) }
+    ensures failed { IfErr result (λ failure. IsNotThere short failure (lines_of driver.new)
+        (talk_of R.remaining W.contents driver.old) (talk_of R.remaining W.contents driver.new)) }
 {
     match ask(driver, short) {
         Ok(reply) => {
@@ -128,8 +141,8 @@ fn shows<S: Clock, R: Read, W: Write>(
     driver: &mut DriverLink<R, W>,
     short: Short,
 ) -> Result<(), Failure>
-    ensures { OnOk result (HasShown short (talk_of R.remaining W.contents driver.old)
-        (talk_of R.remaining W.contents driver.new)) }
+    ensures { IsShowing short result (lines_of driver.new) (talk_of R.remaining W.contents driver.old)
+        (talk_of R.remaining W.contents driver.new) }
 {
     is_there(driver, short)?;
     let shown = blinks(system, driver, short, &BLINKS);
@@ -146,8 +159,8 @@ pub fn identify<S: Voice + Clock, R: Read, W: Write>(
     short: Short,
     report: &mut Report,
 ) -> Result<(), Failure>
-    ensures { OnOk result (HasShown short (talk_of R.remaining W.contents driver.old)
-        (talk_of R.remaining W.contents driver.new)) }
+    ensures { IsShowing short result (lines_of driver.new) (talk_of R.remaining W.contents driver.old)
+        (talk_of R.remaining W.contents driver.new) }
 {
     let ended = shows(system, driver, short);
     Came::bare(ended).told(system, driver, report)

@@ -6,8 +6,8 @@ use Rattle.dali_commission_stores.specs.Calls.{Call, Wrote, Renamed, Likened, Re
 use Rattle.dali_commission_stores.specs.Calls.{Opened, Closed, Look, Has, Text, Lies, Read, Alone}
 
 -- WHAT A CALL of the places where records are kept does in folders: a text is written to a file
--- that lies beside, and a log of SQLite that was left under a name is removed before a file gets it;
--- what SQLite does to a file that is open is its own
+-- that lies beside, and a log of SQLite that was left under a name is removed before a file gets
+-- it; what SQLite does to a file that is open is its own
 abbrev pub events_of : Call → List Event
 events_of (Wrote name text) = writing (name ++ codes ".part") name text
 events_of (Renamed from to) = renaming (to ++ codes "-wal") from to

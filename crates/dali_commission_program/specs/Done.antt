@@ -63,8 +63,8 @@ HasDone is_up is_sound holds kept_of block_of made saw opens remaining contents 
     others was now x y result (task.Replace wanted) =
     OnOk result
     ((random : ℕ)
-    × HasReplaced is_up is_sound holds kept_of block_of made saw opens remaining contents told wanted
-    records random was now x y)
+    × HasReplaced is_up is_sound holds kept_of block_of made saw opens remaining contents told
+    wanted records random was now x y)
 HasDone is_up is_sound holds kept_of block_of made saw opens remaining contents told wrote records
     others was now x y result (task.Mend wanted) =
     IsMendOf is_up is_sound holds kept_of block_of saw opens remaining contents told others wanted

@@ -63,5 +63,5 @@ PutsOrLooks {F = F} {R = R} {W = W} is_up is_sound holds kept_of block_of made s
     records others was now x y (Ok (tt {0})) (task.Replace wanted)
     → IsNothingPut (talk_of remaining contents x) (talk_of remaining contents y)
     → (random : ℕ)
-    × HasLookedIn is_up is_sound holds kept_of block_of made saw opens remaining contents told wanted
-    random x y
+    × HasLookedIn is_up is_sound holds kept_of block_of made saw opens remaining contents told
+    wanted random x y

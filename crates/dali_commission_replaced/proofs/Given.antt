@@ -132,7 +132,8 @@ pub replaced_anew : {F K R W H : Type 0} (is_up is_sound : K → Type 0) (holds 
     → ConfirmedTold told (confirmed_at out.confirmed) (confirmed_random out.confirmed) out.news.items
     → (confirmed_at out.confirmed ≡ wanted.short)
     × HasReplacedAnew is_up is_sound holds kept_of block_of made saw opens remaining contents told wanted names (confirmed_random out.confirmed) was now x y
-replaced_anew is_up is_sound holds kept_of block_of made saw opens remaining contents told wanted names was now x y copies out read (inl (err, same, besides)) says =
+replaced_anew is_up is_sound holds kept_of block_of made saw opens remaining contents told wanted names was now x y copies out read
+    (inl (err, same, besides)) says =
     absurd (false≢true err)
 replaced_anew is_up is_sound holds kept_of block_of made saw opens remaining contents told wanted names was now x y copies out read
     (inr (all, held, at, Err e, dues, (by, due, is, ends))) says = absurd (err_ok e due is)
@@ -174,8 +175,9 @@ pub replaced : {F K R W H : Type 0} (is_up is_sound : K → Type 0) (holds : K �
     (λ _ from to due out. IsExchanged made saw due.swap from to × (out ≡ due)) at now x y (Ok out)
     → news ≡ out.news.items → ConfirmedTold told (confirmed_at out.confirmed) (confirmed_random out.confirmed) news
     → HasReplaced is_up is_sound holds kept_of block_of made saw opens remaining contents told wanted records (confirmed_random out.confirmed) was now x y
-replaced {F = F} {R = R} {W = W} {H = H} is_up is_sound holds kept_of block_of made saw opens remaining contents told wanted records names apart ended copied meant held earlier was at
-    now x y none copies news out places apart_is are_apart ended_is finished without copied_is none_is read meant_is held_is holding news_is says =
+replaced {F = F} {R = R} {W = W} {H = H} is_up is_sound holds kept_of block_of made saw opens remaining contents told wanted records names apart
+    ended copied meant held earlier was at now x y none copies news out places apart_is are_apart ended_is finished without copied_is none_is read
+    meant_is held_is holding news_is says =
     let dues : List (String Global) → List Kept → F → F → DriverLink R W → DriverLink R W → Result DueSwap Failure → Type 0 =
     λ l. Dues is_up is_sound holds kept_of block_of made saw opens remaining contents told wanted l in
     let ends : H → F → F → DueSwap → DueSwap → Type 0 = λ _ from to due out. IsExchanged made saw due.swap from to × (out ≡ due) in

@@ -16,3 +16,4 @@ pub mod Done
 pub mod Questions
 pub mod Puttings
 pub mod Ruled
+mod Looked

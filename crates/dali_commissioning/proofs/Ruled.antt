@@ -161,7 +161,7 @@ module _ {S : Type 0} (is_up is_sound : S → Type 0) (holds : S → List Record
     kept : Commits is_up is_sound holds was it.mid (records_of (acts_of_runs it.runs))
     kept = runs_commit is_up is_sound holds block first was it.mid x it.at it.runs it.are
 
-    go : (acts : List Act) → IsLeftRun is_up is_sound holds block reason it.mid keep it.at y acts
+    go : (acts : List Act) → IsLeftRun is_up is_sound holds block first reason it.mid keep it.at y acts
         → (is_sound was → is_up keep → (xs : List Record) → holds was xs → (k : Kept) → IsReplay block xs k
         → AreOwn (sender_of k) (acts_of_runs it.runs ++ acts))
         → LeavesByRules is_up is_sound holds block reason was keep x y

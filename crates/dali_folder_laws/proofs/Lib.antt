@@ -6,3 +6,4 @@ mod Over
 mod Truths
 mod Asides
 mod Apart
+mod System

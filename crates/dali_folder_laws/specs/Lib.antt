@@ -2,3 +2,4 @@ pub mod Asides
 pub mod Folder
 pub mod Moments
 pub mod Stops
+pub mod System

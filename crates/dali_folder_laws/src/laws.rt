@@ -10,11 +10,15 @@ ghost use Rattle.dali_replacement.specs.Swap.{step_after};
 ghost use Rattle.dali_replacement.specs.Swapping.{names_of};
 ghost use Rattle.dali_commission_stores.specs.Seen.{IsMoment};
 ghost use Rattle.dali_commission_stores.specs.Settling.{IsDone, count_of};
+ghost use Rattle.dali_folder.specs.Events.{Event, AreBegun};
+ghost use Rattle.dali_folder.specs.Folder.{Folders, IsSettled, Happen};
 ghost use Rattle.dali_folder_laws.specs.Asides.{PutsAside, PutAsideOften, AreAway, HasStill, HasBehind};
-ghost use Rattle.dali_folder_laws.specs.Folder.{Folder, IsCalled};
+ghost use Rattle.dali_folder_laws.specs.Folder.{Folder, IsAfter, IsCalled, Leaves};
 ghost use Rattle.dali_folder_laws.specs.Moments.{Itself, Journal, IsPart, Differ, MayBegin, Files, IsBefore, IsBehind};
 ghost use Rattle.dali_folder_laws.specs.Moments.{IsAt, IsAtSome, AllOld, AllNew, AllAnnounced};
 ghost use Rattle.dali_folder_laws.specs.Stops.{Program, starting, Sees, Exchanges, Settles, SettleOften, ended_as};
+ghost use Rattle.dali_folder_laws.specs.System.{but_for, asked_by, AreFit, IsThere};
+ghost use Rattle.dali_commission_stores.specs.Calls.{Call};
 
 /// AN EXCHANGE OVER A CRASH. An exchange is begun and stopped at any of its calls; so are any programs that settle it,
 /// one after the other. Then one settles it and is not stopped: each new file has taken the place of its old one, which
@@ -72,4 +76,16 @@ pub fn what_is_put_aside_is_not_lost()
         → PutsAside records names number x y → y.runs ≡ true → AreAway names y.folder }
     ensures often { (records : List (String Global)) (often : ℕ) (x y : Folder) (at had : List ℕ)
         → PutAsideOften records often x y → x at ≡ Some had → HasBehind y at had }
+{}
+
+/// THE SYSTEM LEAVES NO MORE: a call that is stopped within what it asks of the system leaves a folder as before it or
+/// as after it, and one that ends well leaves it as after it, on the disk.
+pub fn the_system_leaves_what_a_stop_leaves()
+    ensures stops { (passing : List ℕ → Bool) (part log : List ℕ → List ℕ) (call : Call) (begun : List Event)
+        (was now : Folders) → AreFit passing part log call → IsSettled was → AreBegun begun (asked_by part log call)
+        → Happen begun was now → Leaves call (but_for passing was.holds) (but_for passing now.disk) }
+    ensures ends { (passing : List ℕ → Bool) (part log : List ℕ → List ℕ) (call : Call) (was now : Folders)
+        → AreFit passing part log call → IsSettled was → IsThere call was.holds
+        → Happen (asked_by part log call) was now
+        → IsSettled now × IsAfter call (but_for passing was.holds) (but_for passing now.holds) }
 {}

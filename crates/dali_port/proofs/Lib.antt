@@ -1,1 +1,4 @@
 mod Halves
+mod Words
+mod Begins
+mod Course

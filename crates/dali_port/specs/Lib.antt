@@ -3,3 +3,4 @@ pub mod Orders
 pub mod Frames
 pub mod Ports
 pub mod Calls
+pub mod Laws

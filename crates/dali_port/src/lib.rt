@@ -5,6 +5,7 @@
 #![tactic(auto)]
 
 mod frames;
+pub mod laws;
 mod orders;
 mod port;
 mod state;

@@ -1,2 +1,3 @@
 mod Numbers
 mod Running
+pub mod Pushed

@@ -2,3 +2,4 @@ pub mod Setup
 pub mod Drawn
 pub mod Ran
 pub mod Report
+pub mod Json

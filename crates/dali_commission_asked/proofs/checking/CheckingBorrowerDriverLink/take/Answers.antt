@@ -5,4 +5,4 @@ pub returns : goal.returns
 returns g c =
     has_checked _ _ _ _ _ _ _ _ _ _ _ _ c.checked_over-came.ensures.0 _ _ _ c.checked_over-came.ensures.1 c.checked_over-came.ensures.2
     c.checked_over-came.ensures.3
-    c.told.ensures.told c.told.ensures.ended
+    c.told.ensures.told c.told.ensures.ended c.checked_over-came.ensures.5

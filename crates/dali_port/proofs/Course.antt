@@ -1,0 +1,121 @@
+use Rattle.std.proofs.Common.{◌≡◌, ℕ, ◌+◌, ◌-◌, ◌*◌, ◌≤◌, Bool, true, false, ◌⊎◌, inl, inr, refl, sym, ◌∙◌, ap, subst, arith, if◌then◌else◌, nat_lt, nat_le}
+use Rattle.std.proofs.lemmas.Bool.Decides.{nat_tests}
+use Rattle.dali_port.specs.declared.frames.Course.{Course}
+use Rattle.dali_port.specs.declared.frames.Course.TheVariants as course
+use Rattle.dali_port.specs.declared.state.{Port.Port, Phase.Phase}
+use Rattle.dali_port.specs.declared.state.Phase.TheVariants.{Free, Waiting, Sending, Breaking, Listening}
+use Rattle.dali_port.specs.declared.state.Sending.{Sending as Sent}
+use Rattle.dali_port.specs.Times.{half_bit}
+use Rattle.dali_port.specs.Frames.{level_at, agreed_by, compared_by, compared, turned, next_of, sent_beyond, sent_until}
+use Rattle.dali_port.specs.Ports.{until_in, until, edged, lost_in, lost, on_course}
+use Rattle.dali_port.specs.Calls.{is_backwards, timed, timer_after, same_level, edge_after, lost_after}
+use Rattle.dali_port.specs.Laws.{GoesOn}
+
+-- A FRAME GOES ON half bit by half bit.
+
+sent_is : (s t : Sent) → Sending s ≡ Sending t → s ≡ t
+sent_is s t e = cc
+
+goes_is : (b : Bool) (v u : Sent) → (if b then course.Destroyed else course.Goes v) ≡ course.Goes u → v ≡ u
+goes_is true v u e = absurd (cc)
+goes_is false v u e = cc
+
+within : (s u : Sent) (a now : ℕ) → compared_by s a now ≡ course.Goes u → GoesOn s u now
+within s u a now e =
+    let same : record s { agreed = a } ≡ u = goes_is (nat_lt 40 (now - a)) _ u e in
+    subst (λ (x : Sent). GoesOn s x now) same (refl, refl, inl (refl, refl))
+
+next_goes : (over late : Bool) (s v u : Sent) (turn a now : ℕ) → (v.order ≡ s.order) × (v.levels ≡ s.levels) × (v.half ≡ s.half)
+    → turn ≡ s.since + half_bit → turn ≤ now
+    → (if over then course.Whole else (if late then course.Destroyed else compared_by (turned v turn) a now)) ≡ course.Goes u → GoesOn s u now
+next_goes true late s v u turn a now are is before e = absurd (cc)
+next_goes false true s v u turn a now are is before e = absurd (cc)
+next_goes false false s v u turn a now are is before e =
+    let same : record (turned v turn) { agreed = a } ≡ u = goes_is (nat_lt 40 (now - a)) _ u e in
+    subst (λ (x : Sent). GoesOn s x now) same (are.0, are.1, inr (ap (λ h. next_of h) are.2, is, before))
+
+beyond : (c : Course) (s u : Sent) (a turn lasted : ℕ) (low : Bool) (now : ℕ) → compared_by s a turn ≡ c → turn ≡ s.since + half_bit → turn ≤ now
+    → sent_beyond c turn lasted low now ≡ course.Goes u → GoesOn s u now
+beyond (course.Goes v) s u a turn lasted low now was is before e =
+    let same : record s { agreed = a } ≡ v = goes_is (nat_lt 40 (turn - a)) _ v was in
+    next_goes (nat_le 40 (v.half + 1)) (nat_lt (2 * half_bit) lasted) s v u turn
+    (agreed_by (level_at (turned v turn) (turned v turn).half) low (turned v turn).agreed now) now
+    (subst (λ (x : Sent). (x.order ≡ s.order) × (x.levels ≡ s.levels) × (x.half ≡ s.half)) same (refl, refl, refl)) is before e
+beyond course.Destroyed s u a turn lasted low now was is before e = absurd (cc)
+beyond course.Whole s u a turn lasted low now was is before e = absurd (cc)
+
+turn_before : (since now : ℕ) → nat_lt (now - since) 417 ≡ false → since + 417 ≤ now
+turn_before since now late = grind (arith, nat_tests)
+
+course_by : (b : Bool) (s u : Sent) (low : Bool) (now : ℕ) → nat_lt (now - s.since) half_bit ≡ b
+    → (if b then compared s low now else sent_beyond (compared s low (s.since + half_bit)) (s.since + half_bit) (now - s.since) low now) ≡ course.Goes u
+    → GoesOn s u now
+course_by true s u low now is e = within s u (agreed_by (level_at s s.half) low s.agreed now) now e
+course_by false s u low now is e =
+    beyond (compared s low (s.since + half_bit)) s u (agreed_by (level_at s s.half) low s.agreed (s.since + half_bit)) (s.since + half_bit)
+    (now - s.since) low now refl refl (turn_before s.since now is) e
+
+course_goes : (s u : Sent) (low : Bool) (now : ℕ) → sent_until s low now ≡ course.Goes u → GoesOn s u now
+course_goes s u low now e = course_by (nat_lt (now - s.since) half_bit) s u low now refl e
+
+-- at the timer, at an edge, and if one may have been lost
+timed_course : (c : Course) (q : Port) (s t : Sent) (now : ℕ) → (timed (on_course q s now c) now).phase ≡ Sending t → c ≡ course.Goes t
+timed_course (course.Goes u) q s t now e = ap (λ x. course.Goes x) (sent_is u t e)
+timed_course course.Destroyed q s t now e = let no : Breaking now ≡ Sending t = e in absurd (cc)
+timed_course course.Whole q s t now e = let no : Listening _ ≡ Sending t = e in absurd (cc)
+
+edged_course : (c : Course) (q : Port) (s t : Sent) (low : Bool) (now : ℕ) → (edged (on_course q s now c) low now).phase ≡ Sending t → c ≡ course.Goes t
+edged_course (course.Goes u) q s t low now e = ap (λ x. course.Goes x) (sent_is u t e)
+edged_course course.Destroyed q s t low now e = let no : Breaking now ≡ Sending t = e in absurd (cc)
+edged_course course.Whole q s t low now e = let no : Listening _ ≡ Sending t = e in absurd (cc)
+
+stays_goes : (p : Port) (s t : Sent) (now : ℕ) → p.phase ≡ Sending s → p.phase ≡ Sending t → GoesOn s t now
+stays_goes p s t now was is =
+    subst (λ (x : Sent). GoesOn s x now) (sent_is s t (sym was ∙ is)) (refl, refl, inl (refl, refl))
+
+timer_by : (back : Bool) (p : Port) (now : ℕ) (s t : Sent) → p.phase ≡ Sending s
+    → (if back then p else timed (until_in (Sending s) (record p { called = now }) now) now).phase ≡ Sending t → GoesOn s t now
+timer_by true p now s t was is = stays_goes p s t now was is
+timer_by false p now s t was is =
+    course_goes s t p.is_low now (timed_course (sent_until s p.is_low now) (record p { called = now }) s t now is)
+
+pub timer_goes : (p : Port) (now : ℕ) (s t : Sent) → p.phase ≡ Sending s → (timer_after p now).phase ≡ Sending t → GoesOn s t now
+timer_goes p now s t was is =
+    timer_by (is_backwards p now) p now s t was
+    (subst (λ ph. (if is_backwards p now then p else timed (until_in ph (record p { called = now }) now) now).phase ≡ Sending t) was is)
+
+both_phase : (back : Bool) (p q : Port) → (if back then p else q).phase ≡ (if back then p.phase else q.phase)
+both_phase true p q = refl
+both_phase false p q = refl
+
+lost_phase : (back : Bool) (p : Port) (now : ℕ) (s t : Sent) → p.phase ≡ Sending s → (if back then p.phase else Breaking now) ≡ Sending t → GoesOn s t now
+lost_phase true p now s t was is = stays_goes p s t now was is
+lost_phase false p now s t was is = absurd (cc)
+
+pub lost_goes : (p : Port) (low : Bool) (now : ℕ) (s t : Sent) → p.phase ≡ Sending s → (lost_after p low now).phase ≡ Sending t → GoesOn s t now
+lost_goes p low now s t was is =
+    let ph : (if is_backwards p now then p.phase else (lost_in p.phase p low now).phase) ≡ Sending t =
+    sym (both_phase (is_backwards p now) p (lost p low now)) ∙ is in
+    lost_phase (is_backwards p now) p now s t was
+    (subst (λ x. (if is_backwards p now then p.phase else (lost_in x p low now).phase) ≡ Sending t) was ph)
+
+edge_by : (back gone : Bool) (p : Port) (low : Bool) (now : ℕ) (s t : Sent) → p.phase ≡ Sending s
+    → (if back then p.phase else (if gone then Breaking now else (edged (until_in (Sending s) (record p { called = now }) now) low now).phase)) ≡ Sending t
+    → GoesOn s t now
+edge_by true gone p low now s t was is = stays_goes p s t now was is
+edge_by false true p low now s t was is = absurd (cc)
+edge_by false false p low now s t was is =
+    course_goes s t p.is_low now (edged_course (sent_until s p.is_low now) (record p { called = now }) s t low now is)
+
+three_phase : (back gone : Bool) (p q r : Port)
+    → (if back then p else (if gone then q else r)).phase ≡ (if back then p.phase else (if gone then q.phase else r.phase))
+three_phase true gone p q r = refl
+three_phase false true p q r = refl
+three_phase false false p q r = refl
+
+pub edge_goes : (p : Port) (low : Bool) (now : ℕ) (s t : Sent) → p.phase ≡ Sending s → (edge_after p low now).phase ≡ Sending t → GoesOn s t now
+edge_goes p low now s t was is =
+    edge_by (is_backwards p now) (same_level p.is_low low) p low now s t was
+    (subst (λ x. (if is_backwards p now then p.phase else (if same_level p.is_low low then (lost_in x p low now).phase
+    else (edged (until_in x (record p { called = now }) now) low now).phase)) ≡ Sending t) was
+    (sym (three_phase (is_backwards p now) (same_level p.is_low low) p (lost p low now) (edged (until p now) low now)) ∙ is))
