@@ -42,14 +42,14 @@ module _ {K : Type 0} (is_up is_sound : K → Type 0) (holds : K → List Record
       → ComesTo is_up is_sound holds block before others came mid keep at y lines ended → PutsByRules is_up is_sound holds block was keep x y
   run_so block before others wanted by was mid keep x at y lines (Ok (begun.Addressed replies)) ended well is (says, so, stores, same) =
       absurd (ok_err _ (sym well ∙ so))
-  run_so block before others wanted by was mid keep x at y lines (Ok (begun.Commissioned pass)) ended well is (inl (fault, line, so)) =
+  run_so block before others wanted by was mid keep x at y lines (Ok (begun.Commissioned pass)) ended well is (inl (fault, line, so, cut)) =
       absurd (ok_err _ (sym well ∙ so))
   run_so block before others wanted by was mid keep x at y lines (Ok (begun.Commissioned pass)) ended well is
       (inr (aim, (after, last, count, read, asked, so, says))) =
       puts_read is_up is_sound holds block block after was mid keep x y
       (puts_ask is_up is_sound holds block was mid x at y (begun_so block others wanted was mid x at by pass is)
       (at_last pass after.enrolled last at y asked)) read
-  run_so block before others wanted by was mid keep x at y lines (Err why) ended well is ((fault, line, so), stores, same) =
+  run_so block before others wanted by was mid keep x at y lines (Err why) ended well is (line, so, stores, same) =
       absurd (ok_err _ (sym well ∙ so))
 
   pub over : (kept_of : K → Kept) (block : Block) (told : Said → Type 0) (others : List Block) (setup : Setup) (was keep : K) (x y : Talk)
@@ -57,7 +57,7 @@ module _ {K : Type 0} (is_up is_sound : K → Type 0) (holds : K → List Record
       → HasRunOver is_up is_sound holds kept_of block told others setup was keep x y done → PutsByRules is_up is_sound holds block was keep x y
   over kept_of block told others setup was keep x y done well none (inl (err, same)) = absurd (err_ok done well err)
   over kept_of block told others setup was keep x y done well none
-      (inr (before, opened, ended, mid, at, read, (came, first, then, lines, is, stops, comes, said), inl (other, so, stores, same))) =
+      (inr (before, opened, ended, mid, at, read, (came, first, then, lines, is, stops, comes, said, failed), inl (other, so, stores, same))) =
       read_puts is_up is_sound holds block block before was opened keep x y read
       (subst (λ t. PutsByRules is_up is_sound holds block opened keep x t) (sym same)
       (subst (λ s. PutsByRules is_up is_sound holds block opened s x at) (sym stores)

@@ -100,7 +100,7 @@ run_shared is_up is_sound holds block before others wanted by was mid keep x at 
 run_more : {S : Type 0} (is_up is_sound : S → Type 0) (holds : S → List Record → Type 0) (block : Block) (told : Said → Type 0)
     (others : List Block) (setup : Setup) (before : Kept) (was keep : S) (x y : Talk) (ended : Result (Unit {0}) Failure)
     → ended ≡ Ok (tt {0}) → HasRun is_up is_sound holds block told others setup before was keep x y ended → IsMore x y
-run_more is_up is_sound holds block told others setup before was keep x y ended well (came, mid, at, lines, is, stops, comes, said) =
+run_more is_up is_sound holds block told others setup before was keep x y ended well (came, mid, at, lines, is, stops, comes, said, failed) =
     run_so is_up is_sound holds block before others setup.idle_passes setup.start was mid keep x at y lines came ended well is comes
 
 -- ---------------------------------------------------------------- gear that are away
@@ -196,7 +196,8 @@ run_over_more is_up is_sound holds kept_of block told others setup was keep x y 
     (inr (before, opened, ended, mid, at, read, run, inl (other, so, stores, same))) =
     more_then (run_more is_up is_sound holds block told others setup before opened mid x at ended (sym so ∙ well) run) (stays at y same)
 run_over_more is_up is_sound holds kept_of block told others setup was keep x y (Ok done) well
-    (inr (before, opened, ended, mid, at, read, (came, first, then, lines, is, stops, comes, said), inr (mends, shared, (wanted, named, missing, of, it)))) =
+    (inr (before, opened, ended, mid, at, read, (came, first, then, lines, is, stops, comes, said, failed),
+    inr (mends, shared, (wanted, named, missing, of, it)))) =
     then_more
     (run_shared is_up is_sound holds block before others setup.idle_passes setup.start opened first mid x then at lines came ended shared is comes)
     (mended_so is_up is_sound holds kept_of block told others wanted [] mid keep at y it)

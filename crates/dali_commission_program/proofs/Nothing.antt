@@ -46,7 +46,7 @@ checked_so beside others heard line x y (Err fault) none ended = absurd (ok_err 
 
 checked_more : (beside : Kept → Type 0) (told : Said → Type 0) (others : List Block) (heard : Bool) (line : ℕ) (x y : Talk)
     (ended : Result (Unit {0}) Failure) → ended ≡ Ok (tt {0}) → HasChecked beside told others heard line x y ended → IsMore x y
-checked_more beside told others heard line x y ended well (found, is, so, said) =
+checked_more beside told others heard line x y ended well (found, is, so, said, cut) =
     checked_so beside others heard line x y found is (sym well ∙ so)
 
 pub check_more : {F : Type 0} (saw : F → Look → Type 0) (stores : F) (told : Said → Type 0) (others : List Block) (heard : Bool)

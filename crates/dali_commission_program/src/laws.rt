@@ -48,7 +48,7 @@ where
 /// WHAT A TASK PUTS KEEPS THE RULES OF THE PAGE of `dali_statement`, if it ended well: each line is that of an act of
 /// a sender that keeps to its scripts, by the records of its store, and none is of another. A check and `identify` need
 /// no records. A run does that mends nothing, over the store that was opened for it. A replacement does over the store
-/// for the one short address; while it looks for the new gear, it is not told what it put. What a run put that did not
+/// for the one short address, and over records in memory while it looks for the new gear. What a run put that did not
 /// begin, or was left while its machines ran, keeps the rules too (`survey_left`, `start_left`).
 ///
 /// To mend and to clear need what the rules forbid.

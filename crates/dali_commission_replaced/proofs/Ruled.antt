@@ -1,4 +1,4 @@
-use Rattle.std.proofs.Common.{◌≡◌, ◌⊎◌, ℕ, ◌<◌, ◌≤◌, ◌+◌, arith, List, [], ◌∷◌, Option, Ok, Err, false, sym, ap, subst, inl, inr, length}
+use Rattle.std.proofs.Common.{◌≡◌, ◌⊎◌, ℕ, ◌<◌, ◌≤◌, ◌+◌, arith, List, [], ◌∷◌, Option, Some, None, Ok, Err, false, sym, ap, subst, inl, inr, length}
 use Rattle.std.{proofs.lemmas.Bool.false≢true, specs.declared.alloc.Global.Global, specs.declared.string.String.String}
 use Rattle.dali_script.specs.{Records.Kept, declared.block.Block.Block, declared.records.Record.Record}
 use Rattle.dali_script.specs.declared.{orders.Input.Input, orders.Input.TheVariants.Survey}
@@ -6,14 +6,17 @@ use Rattle.dali_commissioning.specs.{Drivers.Talk, Drivers.talk_of, Rules.AsksBy
 use Rattle.dali_commissioning.specs.declared.{census.Reply.Reply, conducting.Ended.Ended, driver.DriverLink.DriverLink}
 use Rattle.dali_commissioning.specs.declared.census.Reply.TheVariants as heard
 use Rattle.dali_commissioning.proofs.{Questions.asks_both, Questions.asks_none, Questions.answered, Puttings.beside, Rules.runs_keep_rules, Ruled.runs_put}
-use Rattle.dali_commissioning.proofs.Ruled.{puts_read, puts_ask, ask_puts}
+use Rattle.dali_commissioning.proofs.Ruled.{puts_read, puts_ask, ask_puts, runs_leave}
+use Rattle.dali_commissioning.specs.Looking.{HoldsAll, keep_of}
+use Rattle.dali_reserve.specs.Store.{HasRecords}
+use Rattle.dali_replacement.specs.Swapping.{names_of}
 use Rattle.dali_replacement.specs.declared.come.Come.{Come, TheVariants.Nowhere, TheVariants.Reserved, TheVariants.Given}
 use Rattle.dali_replacement.specs.{Standing.IsHeard, Standing.AreHeard, Permit.HasLooked, Permit.alone}
 use Rattle.dali_commission_said.specs.declared.said.Said.{Said}
 use Rattle.dali_commission_tasks.specs.declared.tasks.Replacement.{Replacement}
-use Rattle.dali_commission_stores.specs.{Calls.Look, declared.records.Seen.Seen}
+use Rattle.dali_commission_stores.specs.{Calls.{Call, Look}, declared.records.Seen.Seen}
 use Rattle.dali_commission_asked.proofs.Ruled.{at_last, ok_err}
-use Rattle.dali_commission_replaced.specs.Asking.{HasAskedOthers, IsConfirmed, HasGivenSo, GivesFirst, HasReplaced}
+use Rattle.dali_commission_replaced.specs.Asking.{HasAskedOthers, IsConfirmed, HasGivenSo, GivesFirst, HasReplacedSo, HasReplaced}
 use Rattle.dali_commission_replaced.specs.Ruled.{GivesByRules, ReplacesByRules}
 
 -- WHAT A REPLACEMENT PUTS KEEPS THE RULES OF THE PAGE.
@@ -54,17 +57,31 @@ module _ {K : Type 0} (is_up is_sound : K → Type 0) (holds : K → List Record
       (runs_so block Survey it.gave.filled it.mid x it.at it.pass.ended it.gave.runs it.gave.ran it.gave.ended)
       (at_last it.pass it.after.enrolled it.last it.at y it.asked)) it.reads)
 
-  gives : (a : ℕ) (come : Come) (was keep : K) (x mid y : Talk) → HasLooked come x mid
+  gives : (a : ℕ) (table : Kept) (come : Come) (was keep : K) (x mid y : Talk) → HasLooked a table come x mid
       → PutsByRules is_up is_sound holds (alone a) was keep mid y → GivesByRules is_up is_sound holds a x y
-  gives a Nowhere was keep x mid y (random, at, left) puts =
+  gives a table Nowhere was keep x mid y (random, (k, has, of, (reason, at, (mem, kept, same, wanted, leaves), left))) puts =
       inr (
         was,
         keep,
-        inr (at, random, mid, left, ask_puts is_up is_sound holds (alone a) was keep at mid y (beside random false at mid left) puts),
+        inr (
+          at,
+          table,
+          (
+            k,
+            mem,
+            kept,
+            reason,
+            has,
+            of,
+            same,
+            runs_leave (λ s. Unit {0}) (λ s. HasRecords (keep_of s)) HoldsAll (keep_of mem).block Survey reason mem kept x at leaves,
+          ),
+          ask_puts is_up is_sound holds (alone a) was keep at mid y (beside random false at mid left) puts,
+        ),
       )
-  gives a (Reserved r) was keep x mid y same puts =
+  gives a table (Reserved r) was keep x mid y same puts =
       inr (was, keep, inl (ask_puts is_up is_sound holds (alone a) was keep x mid y (asks_none x mid same) puts))
-  gives a (Given r) was keep x mid y same puts =
+  gives a table (Given r) was keep x mid y same puts =
       inr (was, keep, inl (ask_puts is_up is_sound holds (alone a) was keep x mid y (asks_none x mid same) puts))
 
   gives_between : (a : ℕ) (x before after y : Talk) → AsksByRules x before → GivesByRules is_up is_sound holds a before after → AsksByRules after y
@@ -77,8 +94,8 @@ module _ {K : Type 0} (is_up is_sound : K → Type 0) (holds : K → List Record
         inl (ask_puts is_up is_sound holds (alone a) was keep x before y first
             (puts_ask is_up is_sound holds (alone a) was keep before after y puts last)),
       )
-  gives_between a x before after y first (inr (was, keep, inr (at, random, then, left, puts))) last =
-      inr (was, keep, inr (before, at, random, then, first, left, puts_ask is_up is_sound holds (alone a) was keep at after y puts last))
+  gives_between a x before after y first (inr (was, keep, inr (at, table, looks, puts))) last =
+      inr (was, keep, inr (before, at, table, first, looks, puts_ask is_up is_sound holds (alone a) was keep at after y puts last))
 
 given_first : {F K R W : Type 0} (is_up is_sound : K → Type 0) (holds : K → List Record → Type 0) (kept_of : K → Kept) (block_of : K → Block)
     (saw : F → Look → Type 0) (opens : F → Seen → K → Type 0) (remaining : R → Option (List ℕ)) (contents : W → Option (List ℕ))
@@ -93,18 +110,24 @@ given_first is_up is_sound holds kept_of block_of saw opens remaining contents t
     (inr (mid, looked, inr (from, to, Err failure, open_so, came, well))) = absurd (ok_err failure (sym well))
 given_first is_up is_sound holds kept_of block_of saw opens remaining contents told a come table stores name x y
     (inr (mid, looked, inr (from, to, Ok done, open_so, came, well))) =
-    gives is_up is_sound holds a come came.gave.filled to (talk_of remaining contents x) (talk_of remaining contents mid)
+    gives is_up is_sound holds a table come came.gave.filled to (talk_of remaining contents x) (talk_of remaining contents mid)
     (talk_of remaining contents y) looked
     (given_so is_up is_sound holds kept_of (block_of from) told a table to (talk_of remaining contents mid) (talk_of remaining contents y) came)
 
 pub replaced : {F K R W : Type 0} (is_up is_sound : K → Type 0) (holds : K → List Record → Type 0) (kept_of : K → Kept) (block_of : K → Block)
-    (saw : F → Look → Type 0) (opens : F → Seen → K → Type 0) (remaining : R → Option (List ℕ)) (contents : W → Option (List ℕ))
-    (told : Said → Type 0) (wanted : Replacement) (random : ℕ) (x y : DriverLink R W) → wanted.short < 64
-    → HasReplaced is_up is_sound holds kept_of block_of saw opens remaining contents told wanted random x y
+    (made : F → F → Call → Type 0) (saw : F → Look → Type 0) (opens : F → Seen → K → Type 0) (remaining : R → Option (List ℕ))
+    (contents : W → Option (List ℕ)) (told : Said → Type 0) (wanted : Replacement) (records : List (String Global)) (random : ℕ) (was now : F)
+    (x y : DriverLink R W) → wanted.short < 64
+    → HasReplaced is_up is_sound holds kept_of block_of made saw opens remaining contents told wanted records random was now x y
     → ReplacesByRules is_up is_sound holds wanted.short (talk_of remaining contents x) (talk_of remaining contents y)
-replaced is_up is_sound holds kept_of block_of saw opens remaining contents told wanted random x y short (inl (stores, names, is)) =
-    inl (confirmed saw told wanted.short wanted.missing.items stores names random (talk_of remaining contents x) (talk_of remaining contents y) short is)
-replaced is_up is_sound holds kept_of block_of saw opens remaining contents told wanted random x y short (inr (names, all, news, it, says)) =
+replaced is_up is_sound holds kept_of block_of made saw opens remaining contents told wanted records random was now x y short
+    (names, at, Some swap, lies, apart, settled, (same, is)) =
+    inl (confirmed saw told wanted.short wanted.missing.items at (names_of swap) random (talk_of remaining contents x) (talk_of remaining contents y)
+    short is)
+replaced is_up is_sound holds kept_of block_of made saw opens remaining contents told wanted records random was now x y short
+    (names, at, None, lies, apart, settled, anew) =
+    let it : HasReplacedSo is_up is_sound holds kept_of block_of made saw opens remaining contents told wanted names anew.all random at x y =
+    anew.replaced in
     gives_between is_up is_sound holds wanted.short (talk_of remaining contents x) (talk_of remaining contents it.before)
     (talk_of remaining contents it.after) (talk_of remaining contents y)
     (others_asked wanted.short it.come it.table wanted.missing.items (talk_of remaining contents x) (talk_of remaining contents it.before) short it.others)

@@ -1,14 +1,33 @@
-use Rattle.std.specs.Prelude.{◌⊎◌, ℕ, false, List}
+use Rattle.std.specs.Prelude.{◌≡◌, ◌⊎◌, ℕ, List}
 use Rattle.dali_script.specs.declared.records.Record.{Record}
+use Rattle.dali_script.specs.Records.{Kept}
+use Rattle.dali_reserve.specs.Store.{HasRecords}
+use Rattle.dali_commissioning.specs.declared.fault.CommissionFault.{CommissionFault}
+use Rattle.dali_commissioning.specs.declared.looking.Looking.{Looking}
 use Rattle.dali_commissioning.specs.Drivers.{Talk}
-use Rattle.dali_commissioning.specs.Rules.{AsksByRules, PutsByRules}
-use Rattle.dali_commissioning.specs.Unaddressed.{asking_beside, AreLeftOver}
+use Rattle.dali_commissioning.specs.Looking.{HoldsAll, keep_of}
+use Rattle.dali_commissioning.specs.Rules.{AsksByRules, PutsByRules, LeavesByRules}
 use Rattle.dali_replacement.specs.Permit.{alone}
+use Rattle.dali_replacement.specs.Tables.{Keeps}
 
 -- WHAT A REPLACEMENT PUTS KEEPS THE RULES OF THE PAGE of `dali_statement`.
 
--- while it gives the address: questions, or surveys over a store of the one short address. If it
--- looks for the new gear first, what it puts until it has its number is not told.
+-- The new gear is looked for by a survey over records in memory, which have the gear of a table. It
+-- is left once it wants to give the address.
+abbrev pub LooksByRules : ℕ → Kept → Talk → Talk → Type 0
+LooksByRules a table x y =
+    (k : Kept)
+    × (was : Looking)
+    × (keep : Looking)
+    × (reason : CommissionFault)
+    × Keeps table k
+    × (k.block ≡ alone a)
+    × (keep_of was ≡ k)
+    × LeavesByRules (λ s. Unit {0}) (λ s. HasRecords (keep_of s)) HoldsAll (keep_of was).block
+    reason was keep x y
+
+-- while it gives the address: questions, or surveys over a store of the one short address, once the
+-- new gear was looked for, or without that
 abbrev pub GivesByRules : {S : Type 0} (is_up is_sound : S → Type 0)
     (holds : S → List Record → Type 0) → ℕ → Talk → Talk → Type 0
 GivesByRules {S = S} is_up is_sound holds a x y =
@@ -17,9 +36,8 @@ GivesByRules {S = S} is_up is_sound holds a x y =
     × (keep : S)
     × (PutsByRules is_up is_sound holds (alone a) was keep x y
     ⊎ ((at : Talk)
-    × (random : ℕ)
-    × (after : Talk)
-    × AreLeftOver (asking_beside random) false at after
+    × (table : Kept)
+    × LooksByRules a table x at
     × PutsByRules is_up is_sound holds (alone a) was keep at y)))
 
 -- and all that it puts, before that and after
@@ -32,8 +50,7 @@ ReplacesByRules {S = S} is_up is_sound holds a x y =
     × (PutsByRules is_up is_sound holds (alone a) was keep x y
     ⊎ ((before : Talk)
     × (at : Talk)
-    × (random : ℕ)
-    × (after : Talk)
+    × (table : Kept)
     × AsksByRules x before
-    × AreLeftOver (asking_beside random) false at after
+    × LooksByRules a table before at
     × PutsByRules is_up is_sound holds (alone a) was keep at y)))
