@@ -86,9 +86,9 @@ abbrev pub IsPutInPart : DriverFault → Talk → Talk → List ℕ → Type 0
 IsPutInPart f x y text =
     ((x.fault ≡ Some f) × (y ≡ x)) ⊎ (IsPart f ⊎ Appends x.written y.written text)
 
--- A CALL FAILS ONLY FOR A CAUSE. A fault of the driver is answered only if the talk ended by it, and
--- that a question was lost only if the last frame was. So a body that puts another frame, which is
--- heard, has to end well. When the others are answered other clauses say.
+-- A CALL FAILS ONLY FOR A CAUSE. A fault of the driver is answered only if the talk ended by it,
+-- and that a question was lost only if the last frame was. So a body that puts another frame, which
+-- is heard, has to end well. When the others are answered other clauses say.
 abbrev pub IsFailed : CommissionFault → Talk → Type 0
 IsFailed (commission.Driver f) y = y.fault ≡ Some f
 IsFailed (commission.Store e) y = Unit {0}

@@ -147,7 +147,8 @@ fn byte<R: Read, W: Write>(
     part: Part,
 ) -> Result<Option<Answer>, DriverFault>
     ensures lost { result ≡ Ok None → is_lost driver.new ≡ true }
-    ensures put { IfOk result (λ heard. (told : Input) × IsPut priority (frame_of (RandomByte short part)) half.Whole told
+    ensures put { IfOk result (λ heard. (told : Input)
+        × IsPut priority (frame_of (RandomByte short part)) half.Whole told
         (talk_of R.remaining W.contents driver.old) (talk_of R.remaining W.contents driver.new)
         × (heard ≡ answer_told told)) }
     ensures failed { IfErr result (λ fault. fault_of driver.new ≡ Some fault) }

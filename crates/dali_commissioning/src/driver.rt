@@ -116,7 +116,7 @@ impl<R: Drop, W: Drop> Drop for DriverLink<R, W> {
 }
 
 impl<R: Read, W: Write> DriverLink<R, W> {
-    ghost use Rattle.std.specs.Prelude.{◌⊎◌, ◌++◌, [], ◌∷◌, ◌||◌, true, false, not, Some, None, Ok, Err, OnOk};
+    ghost use Rattle.std.specs.Prelude.{◌++◌, [], ◌∷◌, ◌||◌, true, false, not, Some, None, Ok, Err, OnOk};
     ghost use Rattle.std.specs.Prelude.{IfOk, IfErr, IfSome};
     ghost use Rattle.std.specs.Io.KnownBytes.{Appends, Consumes};
     ghost use Rattle.dali_script.specs.Due.{accepts};
