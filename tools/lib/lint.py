@@ -97,6 +97,7 @@ METHODS = {
     "Crash": ("crash",),
     "Rng": ("next_u32", "next_u64", "fill_bytes"),
     "NextWord": ("next_word",),
+    "OpenFile": ("sync_all",),
     "SeedableRng": ("from_seed", "seed_from_u64"),
     "Write": ("flush", "write_all", "write_str", "write!", "writeln!"),
 }

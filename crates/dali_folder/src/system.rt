@@ -3,7 +3,7 @@
 use crate::folder::Folder;
 use crate::places::folder_of;
 use std::alloc::Global;
-use std::fs::Files;
+use std::fs::{Files, OpenFile};
 use std::io::{ErrorKind, Write};
 use std::{fs, io};
 
