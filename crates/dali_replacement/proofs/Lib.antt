@@ -4,3 +4,4 @@ pub mod Heard
 pub mod Moments
 pub mod Putting
 pub mod Reading
+mod Looked
