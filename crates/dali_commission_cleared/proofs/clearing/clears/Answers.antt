@@ -18,7 +18,7 @@ returns g c = elim (c.match-came_to.branch) [
     c.put_aside.new.stores,
     c.in_ok-aside.ensures,
     c.in_ok-put_new_aside.ensures,
-    inl (ends_cut w.in-Err.fault w.lines.result _ _ w.failure_of.result c.match-came_to.came.ended c.told.result c.told.ensures.ended
+    inl (ends_cut w.in-Err.fault _ _ _ w.failure_of.result c.match-came_to.came.ended c.told.result c.told.ensures.ended
     (ap (λ (k : Came). k.ended) w.came-is ∙ w.bare-came.ensures.ended) w.failure_of.ensures w.in-Err.ensures.failed),
   )
 ]
