@@ -3,7 +3,6 @@ use Rattle.dali_script.specs.declared.records.Record.{Record}
 use Rattle.dali_script.specs.Records.{Kept}
 use Rattle.dali_reserve.specs.Store.{HasRecords}
 use Rattle.dali_commissioning.specs.declared.fault.CommissionFault.{CommissionFault}
-use Rattle.dali_commissioning.specs.declared.looking.Looking.{Looking}
 use Rattle.dali_commissioning.specs.Drivers.{Talk}
 use Rattle.dali_commissioning.specs.Looking.{HoldsAll, keep_of}
 use Rattle.dali_commissioning.specs.Rules.{AsksByRules, PutsByRules, LeavesByRules}
@@ -17,8 +16,8 @@ use Rattle.dali_replacement.specs.Tables.{Keeps}
 abbrev pub LooksByRules : ℕ → Kept → Talk → Talk → Type 0
 LooksByRules a table x y =
     (k : Kept)
-    × (was : Looking)
-    × (keep : Looking)
+    × (was : _)
+    × (keep : _)
     × (reason : CommissionFault)
     × Keeps table k
     × (k.block ≡ alone a)
