@@ -11,14 +11,14 @@ returns g c = elim (c.match-came_to.branch) [
     c.in_ok-aside.ensures,
     c.in_ok-put_new_aside.ensures,
     inr (ends_so (g.S.Voice.told c.args.system.now) _ _ w.in-Ok.came.ended c.told.result _ _
-    (c.told.ensures.ended ∙ ap (λ (k : Came). k.ended) w.came-is) w.in-Ok.ensures.clears
-    (subst (λ (k : Came). AreTold (g.S.Voice.told c.args.system.now) k.report.said.items) w.came-is c.told.ensures.told)),
+        (c.told.ensures.ended ∙ ap (λ (k : Came). k.ended) w.came-is) w.in-Ok.ensures.clears
+        (subst (λ (k : Came). AreTold (g.S.Voice.told c.args.system.now) k.report.said.items) w.came-is c.told.ensures.told)),
   )
   | in-Err w ↦ inr (
     c.put_aside.new.stores,
     c.in_ok-aside.ensures,
     c.in_ok-put_new_aside.ensures,
     inl (ends_cut w.in-Err.fault _ _ _ w.failure_of.result c.match-came_to.came.ended c.told.result c.told.ensures.ended
-    (ap (λ (k : Came). k.ended) w.came-is ∙ w.bare-came.ensures.ended) w.failure_of.ensures w.in-Err.ensures.failed),
+        (ap (λ (k : Came). k.ended) w.came-is ∙ w.bare-came.ensures.ended) w.failure_of.ensures w.in-Err.ensures.failed),
   )
 ]
