@@ -10,5 +10,5 @@ returns-then-has_heard-clause-failed g c =
     c.args.site.now.before.now c.args.site.now.others.now c.args.site.now.wanted.now c.new.result c.in-Ok.replies.items c.deref.result.now
     c.mends_by.new.store (talk_of g.R.Read.remaining g.W.Write.contents c.args.driver.now)
     (talk_of g.R.Read.remaining g.W.Write.contents c.take_census.new.driver) (talk_of g.R.Read.remaining g.W.Write.contents c.mends_by.new.driver)
-    c.mends_by.result (c.new.ensures ∙ ap (λ b. without_records b) c.block.ensures.value) c.in-Ok.ensures.counted c.deref.ensures
+    c.mends_by.result (c.new.ensures ∙ ap (λ b. without_records b) c.block.ensures.value) c.in-Ok.ensures.counted c.deref.ensures.0
     c.mends_by.ensures.failed
