@@ -1,3 +1,4 @@
+pub mod Cut
 pub mod Frames
 pub mod Mended
 pub mod Ruled

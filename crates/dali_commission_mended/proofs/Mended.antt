@@ -1,4 +1,5 @@
-use Rattle.std.proofs.Common.{◌≡◌, true, ℕ, List, [], ◌∷◌, ◌++◌, Option, None, Result, Ok, Err, subst, inl, inr}
+use Rattle.std.proofs.Common.{◌≡◌, ◌⊎◌, true, ℕ, List, [], ◌∷◌, ◌++◌, Option, None, Result, Ok, Err, subst, inl, inr}
+use Rattle.std.{proofs.lemmas.Bool.false≢true, specs.Prelude.IsErr}
 use Rattle.std.specs.declared.{alloc.Global.Global, string.String.String}
 use Rattle.dali_script.specs.{declared.block.Block.Block, declared.records.Record.Record, Records.Kept}
 use Rattle.dali_commissioning.specs.{declared.driver.DriverLink.DriverLink, Drivers.{Talk, talk_of}, Runs.IsRead}
@@ -39,6 +40,13 @@ not_mended is_up is_sound holds kept_of block at others wanted tables was opened
   ended = ended;
   ends = subst (λ b. EndsMend is_up is_sound holds kept_of b table before others wanted ms opened mid x y ended) same mends;
 }
+
+pub fails_over : {S : Type 0} (is_up is_sound : S → Type 0) (holds : S → List Record → Type 0) (kept_of : S → Kept) (block : Block)
+    (told : Said → Type 0) (others : List Block) (wanted : Mend) (tables : List Kept) (was keep : S) (x y : Talk) (result : Result (Unit {0}) Failure)
+    → IsErr result → (y ≡ x) ⊎ HasNotMended is_up is_sound holds kept_of block others wanted tables was x y
+    → MendsOver is_up is_sound holds kept_of block told others wanted tables was keep x y result
+fails_over is_up is_sound holds kept_of block told others wanted tables was keep x y (Ok done) fails it = absurd (false≢true fails)
+fails_over is_up is_sound holds kept_of block told others wanted tables was keep x y (Err failure) fails it = it
 
 pub mended_so : {S : Type 0} (is_up is_sound : S → Type 0) (holds : S → List Record → Type 0) (kept_of : S → Kept) (block at : Block)
     (told : Said → Type 0) (others : List Block) (wanted : Mend) (tables : List Kept) (was opened mid keep : S) (x y : Talk) (before table after : Kept)

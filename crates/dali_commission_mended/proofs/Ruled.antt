@@ -1,9 +1,9 @@
-use Rattle.std.proofs.Common.{◌≡◌, ◌∙◌, ◌⊎◌, ℕ, ◌≤◌, arith, List, [], ◌∷◌, true, false, Result, Ok, Err, sym, ap, subst, inl, inr, length}
+use Rattle.std.proofs.Common.{◌≡◌, ◌∙◌, ◌⊎◌, ℕ, arith, List, [], ◌∷◌, false, Result, Ok, Err, sym, ap, subst, inl, inr}
 use Rattle.std.{proofs.lemmas.Bool.false≢true, specs.Prelude.IfOk, specs.Prelude.IsErr, specs.Prelude.is_err}
 use Rattle.dali_script.specs.{Records.Kept, declared.block.Block.Block, declared.records.Record.Record}
 use Rattle.dali_script.specs.declared.{orders.Input.Input, orders.Input.TheVariants.Start, orders.Input.TheVariants.Survey}
 use Rattle.dali_commissioning.specs.{Drivers.Talk, Rules.PutsByRules, Rules.LeavesByRules, Runs.Run, Runs.AreRuns, Runs.EndWith, Runs.IsRead}
-use Rattle.dali_commissioning.specs.declared.{beginning.Begun.Begun, census.Reply.Reply, conducting.Ended.Ended, conducting.PassEnd.PassEnd}
+use Rattle.dali_commissioning.specs.declared.{beginning.Begun.Begun, conducting.Ended.Ended, conducting.PassEnd.PassEnd}
 use Rattle.dali_commissioning.specs.declared.fault.CommissionFault.{CommissionFault}
 use Rattle.dali_commissioning.specs.declared.beginning.Begun.TheVariants as begun
 use Rattle.dali_commissioning.proofs.{Questions.counted, Rules.runs_keep_rules, Ruled.runs_put, Ruled.read_puts, Ruled.puts_read, Ruled.puts_ask}
