@@ -196,8 +196,16 @@ run_over_more is_up is_sound holds kept_of block told others setup was keep x y 
     (inr (before, opened, ended, mid, at, read, run, inl (other, so, stores, same))) =
     more_then (run_more is_up is_sound holds block told others setup before opened mid x at ended (sym so ∙ well) run) (stays at y same)
 run_over_more is_up is_sound holds kept_of block told others setup was keep x y (Ok done) well
-    (inr (before, opened, ended, mid, at, read, (came, first, then, lines, is, stops, comes, said, failed),
-    inr (mends, shared, (wanted, named, missing, of, it)))) =
+    (inr (
+      before,
+      opened,
+      ended,
+      mid,
+      at,
+      read,
+      (came, first, then, lines, is, stops, comes, said, failed),
+      inr (mends, shared, (wanted, named, missing, of, it)),
+    )) =
     then_more
     (run_shared is_up is_sound holds block before others setup.idle_passes setup.start opened first mid x then at lines came ended shared is comes)
     (mended_so is_up is_sound holds kept_of block told others wanted [] mid keep at y it)
