@@ -1,4 +1,4 @@
-use Rattle.std.proofs.Common.{◌≡◌, ℕ, zero, suc, ◌+◌, Bool, true, false, List, [], ◌∷◌, ◌++◌, Option, Some, None, refl, ap, subst, sym, ◌∙◌}
+use Rattle.std.proofs.Common.{◌≡◌, ℕ, zero, suc, ◌+◌, Bool, true, false, List, [], ◌∷◌, ◌++◌, Option, Some, None, refl, ap, subst, sym, ◌∙◌, inl, inr, IfSome}
 use Rattle.std.specs.Prelude.{slice_get, option_map, string_bytes, is_some}
 use Rattle.std.specs.declared.{alloc.Global.Global, string.String.String}
 use Rattle.dali_folder.specs.Folder.{Names, Folders, restarted}
@@ -7,9 +7,9 @@ use Rattle.dali_replacement.specs.declared.swap.{Lies.Lies, Step.Step}
 use Rattle.dali_replacement.specs.declared.swap.Step.TheVariants.{Announce, SetAside, Place, Forget}
 use Rattle.dali_replacement.specs.declared.swapping.Swap.{Swap}
 use Rattle.dali_replacement.specs.Swapping.{names_of, number_of, swap_text}
-use Rattle.dali_commission_stores.specs.Calls.{Call, Wrote, Renamed, Likened, Removed, Look, AreMade}
-use Rattle.dali_commission_stores.specs.Seen.{LiesSo, AreLying, IsMoment}
-use Rattle.dali_commission_stores.specs.Settled.{IsSettled, IsExchanged}
+use Rattle.dali_commission_stores.specs.Calls.{Call, Wrote, Renamed, Likened, Removed, Look, Alone, AreMade}
+use Rattle.dali_commission_stores.specs.Seen.{LiesSo, AreLying, IsMoment, IsFirstJournal}
+use Rattle.dali_commission_stores.specs.Settled.{IsSettled, IsExchanged, IsAlone}
 use Rattle.dali_commission_stores.specs.Settling.{calls_of, new_at, journal_at, kept_at, IsNamed, IsDone, GoesOn, GoesBack}
 use Rattle.dali_folder_laws.specs.Folder.{IsSame}
 use Rattle.dali_folder_laws.specs.Moments.{Files, MayBegin, IsBefore}
@@ -122,6 +122,22 @@ moment : (passing : List ℕ → Bool) (part log : List ℕ → List ℕ) (swap 
 moment passing part log swap x m fits (all, lie, inside, at) =
     (all, lying passing part log (number_of swap) x (names_of swap) [] all (each_fit passing part log (number_of swap) (names_of swap) fits) lie, inside, at)
 
+first_journal : (passing : List ℕ → Bool) (part log : List ℕ → List ℕ) (number : ℕ) (x : Machine) (names : List (String Global)) (at : Option (List ℕ))
+    → EachFit passing part log number names → IsFirstJournal Looks x names at → IsFirstJournal Sees (as_program passing x) names at
+first_journal passing part log number x [] at fits none = none
+first_journal passing part log number x (name ∷ more) at fits (inl (saw, is)) = inl (has passing x _ _ fits.0.0.0 saw, is)
+first_journal passing part log number x (name ∷ more) at fits (inr (saw, rest)) =
+    inr (has passing x _ _ fits.0.0.0 saw, first_journal passing part log number x more at fits.1 rest)
+
+alone : (passing : List ℕ → Bool) (part log : List ℕ → List ℕ) (swap : Swap) (x : Machine) → Fits passing part log swap → IsAlone Looks swap x
+    → IsAlone Sees swap (as_program passing x)
+alone passing part log swap x fits (at, first, kept) =
+    (at, first_journal passing part log (number_of swap) x (names_of swap) at (each_fit passing part log (number_of swap) (names_of swap) fits) first, go at)
+  where
+    go : (o : Option (List ℕ)) → IfSome o (λ journal. Sees (as_program passing x) (Alone journal))
+    go None = tt
+    go (Some journal) = λ runs. tt
+
 -- SETTLED
 settled : (passing : List ℕ → Bool) (part log : List ℕ → List ℕ) (swap : Swap) (x y : Machine) (done : Bool) → Fits passing part log swap
     → folder.IsSettled x.folders → IsSettled (Asks part log) Looks swap x y done
@@ -148,12 +164,12 @@ pub over_every_crash : (passing : List ℕ → Bool) (part log : List ℕ → Li
     (done : Bool) → MayBegin swap → Fits passing part log swap → folder.IsSettled x → IsBefore swap files (but_for passing x.holds)
     → MachineExchanges part log swap x y → MachinesSettle part log swap count y.folders z → MachineSettles part log swap z w done → w.runs ≡ true
     → folder.IsSettled w.folders × ended_as swap files done (but_for passing w.folders.holds)
-over_every_crash passing part log swap files count x z y w done may fits calm is (mid, (steps, announced), end) then_ last runs =
+over_every_crash passing part log swap files count x z y w done may fits calm is (mid, (steps, announced), by, end) then_ last runs =
     let first = on passing part log swap 0 _ steps (booted x) mid fits calm announced in
     let second = settled passing part log swap mid y true fits first.1 end in
     let more = often passing part log swap count y.folders z fits second.1 then_ in
     let third = settled passing part log swap (booted z) w done fits more.1 last in (
       third.1,
       over_every_stop swap files count (but_for passing x.holds) (but_for passing z.holds) (as_program passing y) (as_program passing w) done may is
-          (as_program passing mid, (steps, first.0), second.0) more.0 third.0 runs,
+          (as_program passing mid, (steps, first.0), alone passing part log swap mid fits by, second.0) more.0 third.0 runs,
     )

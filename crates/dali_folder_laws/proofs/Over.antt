@@ -37,7 +37,7 @@ settled swap files m x y false may runs inside is (l, seen, early, goes) =
 -- AN EXCHANGE, from the beginning
 pub exchanged : (swap : Swap) (files : Files) (x : Folder) (y : Program) → MayBegin swap
     → IsAt swap files 0 x → Exchanges swap x y → Stands swap files (4 * count_of swap) y
-exchanged swap files x y may is (z, (steps, announced), (l, seen, late, (more, goes))) = go z.runs refl
+exchanged swap files x y may is (z, (steps, announced), alone, (l, seen, late, (more, goes))) = go z.runs refl
   where
     at : Stands swap files (count_of swap) z
     at = goes_on swap files 0 (count_of swap) steps (starting x) z may.apart (omega arith) (omega arith) announced

@@ -5,7 +5,7 @@ use Rattle.dali_folder.specs.Folder.{Names, Folders, put, moving, moved, AreSame
 use Rattle.dali_folder.proofs.Names.{put_here, put_other}
 use Rattle.dali_folder.proofs.Writing as texts
 use Rattle.dali_folder.proofs.Moving as moves
-use Rattle.dali_commission_stores.specs.Calls.{Call, Wrote, Renamed, Likened, Removed}
+use Rattle.dali_commission_stores.specs.Calls.{Call, Wrote, Renamed, Likened, Removed, Opened, Closed}
 use Rattle.dali_folder_laws.specs.Folder.{Folder, IsSame, IsAfter, Leaves}
 use Rattle.dali_folder_laws.specs.System.{but_for, asked_by, AreFit, IsThere}
 
@@ -100,6 +100,8 @@ stops passing part log (Removed name) begun was now out settled b h = elim (move
   | inl left ↦ inl (λ at. each passing was.holds now.disk at (λ is. left at))
   | inr done ↦ inr (removed passing name was.holds now.disk out done)
 ]
+stops passing part log (Opened name) begun was now fit settled b h = absurd fit
+stops passing part log (Closed name) begun was now fit settled b h = absurd fit
 stops passing part log (Likened name to) begun was now fit settled b h = inl (liken_left passing name to begun was now settled b h)
 stops passing part log (Renamed from to) begun was now (out, also, hides, differ, near) settled b h =
     elim (moves.stop_renaming (log to) from to was now (apart passing from (log to) out hides) near settled begun b h) [
@@ -124,6 +126,8 @@ ends passing part log (Wrote name text) was now (out, hides, near) settled there
     within at other = ap (λ (o : Option (List ℕ)). if bytes_eq at name then Some text else o) (put_other (part name) None was.holds at other)
 ends passing part log (Removed name) was now out settled there h =
     let end = moves.ended name was now settled h in (end.0, removed passing name was.holds now.holds out end.1)
+ends passing part log (Opened name) was now fit settled there h = absurd fit
+ends passing part log (Closed name) was now fit settled there h = absurd fit
 ends passing part log (Likened name to) was now fit settled there (mid, h, done) =
     let end = likened name to was mid settled h in
     subst (λ (f : Folders). IsSettled f × IsAfter (Likened name to) (but_for passing was.holds) (but_for passing f.holds)) done

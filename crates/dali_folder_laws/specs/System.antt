@@ -5,7 +5,7 @@ use Rattle.dali_folder.specs.Folder.{Names, Folders, Happen, restarted, folder_o
 use Rattle.dali_replacement.specs.declared.swapping.Swap.{Swap}
 use Rattle.dali_replacement.specs.Swapping.{number_of}
 use Rattle.dali_commission_stores.specs.Calls.{Call, Wrote, Renamed, Likened, Removed}
-use Rattle.dali_commission_stores.specs.Calls.{Look}
+use Rattle.dali_commission_stores.specs.Calls.{Opened, Closed, Look}
 use Rattle.dali_commission_stores.specs.Settled.{IsSettled, IsExchanged}
 use Rattle.dali_commission_stores.specs.Settling.{new_at, journal_at, kept_at, IsNamed}
 use Rattle.dali_folder_laws.specs.Folder.{Folder, IsTrueOf}
@@ -21,8 +21,11 @@ asked_by part log (Wrote name text) = writing (part name) name text
 asked_by part log (Renamed from to) = renaming (log to) from to
 asked_by part log (Likened name to) = Likens name to ∷ []
 asked_by part log (Removed name) = removing name
+asked_by part log (Opened name) = []
+asked_by part log (Closed name) = []
 
--- such names belong to these, and lie in their folders; a file is renamed within its folder
+-- such names belong to these, and lie in their folders; a file is renamed within its folder, and no
+-- records are opened
 abbrev pub AreFit : (List ℕ → Bool) → (part log : List ℕ → List ℕ) → Call → Type 0
 AreFit passing part log (Wrote name text) =
     (passing name ≡ false)
@@ -36,6 +39,8 @@ AreFit passing part log (Renamed from to) =
     × (folder_of from ≡ folder_of to)
 AreFit passing part log (Likened name to) = Unit {0}
 AreFit passing part log (Removed name) = passing name ≡ false
+AreFit passing part log (Opened name) = ⊥
+AreFit passing part log (Closed name) = ⊥
 
 -- what is renamed is there
 abbrev pub IsThere : Call → Names → Type 0
