@@ -20,6 +20,7 @@ ghost use Rattle.dali_commission_files.specs.Opened.{names_of};
 ghost use Rattle.dali_folder.specs.Events.{AreDone, HaveBegun};
 ghost use Rattle.dali_commission_files.specs.Folders.{events_of, HasSeen};
 
+use crate::keeps::{CopyKeep, FileKeep};
 use crate::log::is_damaged;
 use dali_commission_said::{Failure, StoreFault};
 use dali_commission_stores::{Actor, Holder, Seen, Stores};
@@ -444,9 +445,9 @@ fn made(alloc: Global, name: &str, end: &str) -> Result<String, StoreFault>
 }
 
 impl<'a, F: Folder> Stores for Files<'a, F> {
-    type Open = SqliteKeep<FileStore<File>>;
+    type Open = FileKeep;
 
-    type Copy = SqliteKeep<FileStore<sqlite_disk::Memory>>;
+    type Copy = CopyKeep;
 
     ghost made = { λ was now call. AreDone F.did (events_of call) was.folder now.folder };
 
@@ -460,7 +461,7 @@ impl<'a, F: Folder> Stores for Files<'a, F> {
         self.folder.has(name)
     }
 
-    fn open(&mut self, seen: &Seen<'_>) -> Result<SqliteKeep<FileStore<File>>, Failure> {
+    fn open(&mut self, seen: &Seen<'_>) -> Result<FileKeep, Failure> {
         let (rt, name) = (self.rt, seen.name());
         let conn = opened(rt, name)?;
         if self.has(seen.journal()) {
@@ -468,14 +469,14 @@ impl<'a, F: Folder> Stores for Files<'a, F> {
             return Err(Failure::Unfinished);
         }
         match SqliteKeep::over(conn, seen.block()) {
-            Ok(store) => Ok(store),
+            Ok(keep) => Ok(FileKeep { keep }),
             Err(error) => Err(Failure::Store(StoreFault::Store(error))),
         }
     }
 
-    fn close(&mut self, seen: &Seen<'_>, open: SqliteKeep<FileStore<File>>) -> Result<(), Failure> {
+    fn close(&mut self, seen: &Seen<'_>, open: FileKeep) -> Result<(), Failure> {
         let (rt, name) = (self.rt, seen.name());
-        match shut(rt, name, open.into_connection()) {
+        match shut(rt, name, open.keep.into_connection()) {
             Ok(_) => Ok(()),
             Err(fault) => Err(why_failed(rt, name, Failure::Store(fault))),
         }
@@ -485,16 +486,12 @@ impl<'a, F: Folder> Stores for Files<'a, F> {
         why_failed(self.rt, seen.name(), failure)
     }
 
-    fn copy(
-        &self,
-        name: &str,
-        journal: &str,
-    ) -> Result<SqliteKeep<FileStore<sqlite_disk::Memory>>, Failure> {
-        let store = copied(self.rt, name)?;
+    fn copy(&self, name: &str, journal: &str) -> Result<CopyKeep, Failure> {
+        let keep = copied(self.rt, name)?;
         if self.has(journal) {
             return Err(Failure::Unfinished);
         }
-        Ok(store)
+        Ok(CopyKeep { keep })
     }
 
     fn place_of(&self, alloc: Global, name: &str) -> Result<String, Failure> {

@@ -2,6 +2,8 @@
 #![tactic(auto)]
 
 mod files;
+mod keeps;
 mod log;
 
 pub use files::Files;
+pub use keeps::{CopyKeep, FileKeep};
