@@ -1,4 +1,4 @@
-use Rattle.std.proofs.Common.{◌≡◌, ℕ, List, [], ◌∷◌, ◌++◌, Bool, Result, Ok, Err, ap, subst, sym, ◌∙◌, inl}
+use Rattle.std.proofs.Common.{◌≡◌, ℕ, List, [], ◌∷◌, Bool, Result, Ok, Err, ap, subst, sym, ◌∙◌, inl}
 use Rattle.std.specs.Prelude.{IfErr, IsErrAnd}
 use Rattle.dali_script.specs.Records.{without_records}
 use Rattle.dali_commissioning.specs.{Drivers.Talk, Places.places, declared.{census.Reply.Reply, fault.CommissionFault.CommissionFault}}
@@ -31,19 +31,23 @@ rounds_cut reason x y (Ok done) is cut = tt
 rounds_cut reason x y (Err e) is cut = inl (subst (λ (f : CommissionFault). AreRoundsCut (1 ∷ 2 ∷ 3 ∷ 4 ∷ []) f x y) (sym is) cut)
 
 -- and so it ends, cut short or not
-pub ends_cut : (reason : CommissionFault) (frames : ℕ) (x y : Talk) (why : Failure) (came : Came) (ended result : Result (Unit {0}) Failure)
-    (report : Report) → result ≡ ended → ended ≡ came.ended → came ≡ record { report = no_report; ended = Err why }
-    → report ≡ record came.report { frames = frames } → why ≡ failure_of reason frames → IsClearCut reason x y
+pub ends_cut : (reason : CommissionFault) (line frames : ℕ) (x y : Talk) (why : Failure) (from came : Came) (result : Result (Unit {0}) Failure)
+    (report : Report) → from ≡ came → result ≡ from.ended → report ≡ record from.report { frames = frames }
+    → came ≡ record { report = no_report; ended = Err why } → why ≡ failure_of reason line → line ≡ frames → IsClearCut reason x y
     → (r : CommissionFault) × (result ≡ Err (failure_of r frames)) × (report ≡ record no_report { frames = frames }) × IsClearCut r x y
-ends_cut reason frames x y why came ended result report same so is reports of cut = (
+ends_cut reason line frames x y why from came result report same ends reports is of counts cut = (
   reason,
-  same ∙ so ∙ ap (λ (c : Came). c.ended) is ∙ ap (λ (f : Failure). Err f) of,
-  reports ∙ ap (λ (c : Came). record c.report { frames = frames }) is,
+  ends ∙ ap (λ (c : Came). c.ended) (same ∙ is) ∙ ap (λ (f : Failure). Err f) (of ∙ ap (λ (n : ℕ). failure_of reason n) counts),
+  reports ∙ ap (λ (c : Came). record c.report { frames = frames }) (same ∙ is),
   cut,
 )
 
-pub ends_so : (told : Said → Type 0) (x y : Talk) (frames : ℕ) (came : Came) (result : Result (Unit {0}) Failure) (report : Report)
-    → result ≡ came.ended → ClearsTo came.report came.ended x y → report ≡ record came.report { frames = frames } → AreTold told came.report.said.items
-    → IsClearedSo told x y frames report result
-ends_so told x y frames came result report same clears reports tells =
-    (came.report, subst (λ (e : Result (Unit {0}) Failure). ClearsTo came.report e x y) (sym same) clears, reports, tells)
+pub ends_so : (told : Said → Type 0) (x y : Talk) (frames : ℕ) (from came : Came) (result : Result (Unit {0}) Failure) (report : Report)
+    → from ≡ came → result ≡ from.ended → report ≡ record from.report { frames = frames } → AreTold told from.report.said.items
+    → ClearsTo came.report came.ended x y → IsClearedSo told x y frames report result
+ends_so told x y frames from came result report same ends reports tells clears = (
+  came.report,
+  subst (λ (e : Result (Unit {0}) Failure). ClearsTo came.report e x y) (sym (ends ∙ ap (λ (c : Came). c.ended) same)) clears,
+  reports ∙ ap (λ (c : Came). record c.report { frames = frames }) same,
+  subst (λ (c : Came). AreTold told c.report.said.items) same tells,
+)

@@ -467,11 +467,15 @@ impl<S: Voice + AllocGlobal> Mender<'_, S> {
         let mut progress = Progress::new(system, self.manner, left_of(&before));
         let mut mended = Vec::new(system.alloc());
         let came = came_to_or_not(store, &mut session.driver, &mut progress, &site, &mut mended);
-        let after = session
-            .report
-            .note_lines(system, &session.driver, kept(store))?;
-        say_mended(system, &mended, &after);
-        came.told(system, &session.driver, &mut session.report)
+        match kept(store) {
+            Ok(after) => {
+                say_mended(system, &mended, &after);
+                came.told(system, &session.driver, &mut session.report)
+            }
+            Err(failure) => session
+                .report
+                .note_lines(system, &session.driver, Err(failure)),
+        }
     }
 }
 
