@@ -3,7 +3,7 @@ use Rattle.std.specs.Prelude.{IfOk, IfErr}
 use Rattle.dali_script.specs.{declared.block.Block.Block, declared.records.Record.Record, Records.Kept}
 use Rattle.dali_commissioning.specs.declared.{beginning.Checked.Checked, fault.CommissionFault.CommissionFault}
 use Rattle.dali_commissioning.specs.{Drivers.{Talk, has_heard, lines_of, talk_of, IsCutBeside}, Runs.{IsChecked, IsRead}}
-use Rattle.dali_commission_said.specs.{declared.failure.Failure.Failure, declared.report.Report.Report, declared.report.Session.Session, declared.said.Said.Said, Said.AreTold}
+use Rattle.dali_commission_said.specs.{declared.{failure.Failure.Failure, report.{Report.Report, Session.Session}, said.Said.Said}, Said.AreTold}
 use Rattle.dali_commission_stores.specs.{Calls.{Look}, Lent.{IsLent, IsCopied}}
 use Rattle.dali_commission_asked.specs.Came.{check_ended, check_reported, HasAskedAll, HasChecked, IsCheckOf}
 
@@ -22,13 +22,13 @@ pub has_checked : {S : Type 0} (is_up is_sound : S → Type 0) (holds : S → Li
     → IfErr found (λ reason. IsCutBeside reason x y) → HasChecked (IsRead is_up is_sound holds block was keep) told others heard line x y report result
 has_checked is_up is_sound holds block told others was keep heard line x y found came report ended result is ends reports same_report tells same
     cut = (
-  found,
-  asked_all is_up is_sound holds block others was keep x y found is,
-  same ∙ ends,
-  same_report ∙ ap (λ (r : Report). record r { frames = line }) reports,
-  subst (λ (r : Report). AreTold told r.said.items) (sym same_report) tells,
-  cut,
-)
+      found,
+      asked_all is_up is_sound holds block others was keep x y found is,
+      same ∙ ends,
+      same_report ∙ ap (λ (r : Report). record r { frames = line }) reports,
+      subst (λ (r : Report). AreTold told r.said.items) (sym same_report) tells,
+      cut,
+    )
 
 -- and it is one beside records that are so if these are
 beside_so : (beside besides : Kept → Type 0) (others : List Block) (x y : Talk) (found : Result Checked CommissionFault)

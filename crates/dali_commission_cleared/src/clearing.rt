@@ -1,6 +1,6 @@
 //! `clear`: all gear lose their short addresses.
 
-ghost use Rattle.std.specs.Prelude.{◌≡◌, ◌≤◌, false, ◌++◌, [], None, IfOk, IfErr, OnOk, length, not};
+ghost use Rattle.std.specs.Prelude.{◌≡◌, ◌≤◌, false, [], None, IfOk, IfErr, OnOk, length, not};
 ghost use Rattle.std.specs.List.{list_any};
 ghost use Rattle.dali_script.specs.Records.{without_records};
 ghost use Rattle.dali_commissioning.specs.Census.{is_silent};

@@ -57,22 +57,22 @@ module _ {S : Type 0} (is_up is_sound : S → Type 0) (holds : S → List Record
       → HasMended is_up is_sound holds kept_of block told others wanted tables was keep x y frames report
   mended told others wanted tables was opened mid keep x y frames report before table after ms of came same reads gathered of_these mends last said
       reports = record {
-    before = before;
-    opened = opened;
-    reads = reads;
-    table = table;
-    gathered = gathered;
-    of_these = of_these;
-    ms = ms;
-    mid = mid;
-    came = came;
-    mends = subst (λ b. MendsFrom is_up is_sound holds kept_of b table before others wanted ms opened mid x y came (Ok tt)) same mends;
-    after = after;
-    of = of;
-    reads_last = last;
-    said = said;
-    reports = reports;
-  }
+        before = before;
+        opened = opened;
+        reads = reads;
+        table = table;
+        gathered = gathered;
+        of_these = of_these;
+        ms = ms;
+        mid = mid;
+        came = came;
+        mends = subst (λ b. MendsFrom is_up is_sound holds kept_of b table before others wanted ms opened mid x y came (Ok tt)) same mends;
+        after = after;
+        of = of;
+        reads_last = last;
+        said = said;
+        reports = reports;
+      }
 
   module _ {R W : Type 0} (remaining : R → Option (List ℕ)) (contents : W → Option (List ℕ)) (told : Said → Type 0) where
     pub unread_over : (others : List Block) (wanted : Mend) (tables : List Kept) (was opened mid keep : S) (x y : Session R W)

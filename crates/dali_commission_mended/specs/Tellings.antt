@@ -1,5 +1,5 @@
-use Rattle.std.specs.Prelude.{◌≡◌, ◌⊎◌, ℕ, ◌+◌, ◌-◌, ◌^◌, min, true, List, [], ◌∷◌, ◌++◌, Option, Some, None, Result}
-use Rattle.std.specs.Prelude.{Ok, Err, IfOk, IfErr, IsErr, string_bytes}
+use Rattle.std.specs.Prelude.{◌≡◌, ◌⊎◌, ℕ, ◌+◌, ◌-◌, ◌^◌, min, true, List, [], ◌∷◌, ◌++◌, Option}
+use Rattle.std.specs.Prelude.{Some, None, Result, Ok, Err, IfOk, IfErr, IsErr, string_bytes}
 use Rattle.std.specs.declared.alloc.Global.{Global}
 use Rattle.std.specs.declared.string.String.{String}
 use Rattle.dali_script.specs.declared.block.Block.{Block}
@@ -40,9 +40,10 @@ AreMendsTold told (m ∷ more) =
     MendTold told m.short (outcome_at m.course.stage) × AreMendsTold told more
 
 -- A RUN THAT ENDED SO has begun as was asked for, and said and reported what it came to
-abbrev pub HasRun : {S R W : Type 0} (is_up is_sound : S → Type 0) (holds : S → List Record → Type 0)
-    → Block → (R → Option (List ℕ)) → (W → Option (List ℕ)) → (Said → Type 0) → List Block → Setup
-    → Kept → S → S → Session R W → Session R W → Result (Unit {0}) Failure → Type 0
+abbrev pub HasRun : {S R W : Type 0} (is_up is_sound : S → Type 0)
+    (holds : S → List Record → Type 0) → Block → (R → Option (List ℕ)) → (W → Option (List ℕ))
+    → (Said → Type 0) → List Block → Setup → Kept → S → S → Session R W → Session R W
+    → Result (Unit {0}) Failure → Type 0
 HasRun {S = S} is_up is_sound holds block remaining contents told others setup before was keep x y
     ended =
     (begun : Result Begun CommissionFault)

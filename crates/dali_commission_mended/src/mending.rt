@@ -23,8 +23,8 @@ use dali_commission_asked::{
     or_open, refused_from, reserved_in, why_open, with_left,
 };
 use dali_commission_said::{
-    Aim, Came, Failure, Manner, MendRefusal, Progress, REFUSED, Report, Said, Session, Voice, Which,
-    add, ended_as, failure_of, heard_of, or_say, own_rows, push_places, say,
+    Aim, Came, Failure, Manner, MendRefusal, Progress, REFUSED, Report, Said, Session, Voice,
+    Which, add, ended_as, failure_of, heard_of, or_say, own_rows, push_places, say,
 };
 use dali_commission_stores::{Borrower, Stores, kept, lend, read_all};
 use dali_commission_tasks::{Asked, Mend};
@@ -466,7 +466,13 @@ impl<S: Voice + AllocGlobal> Mender<'_, S> {
         };
         let mut progress = Progress::new(system, self.manner, left_of(&before));
         let mut mended = Vec::new(system.alloc());
-        let came = came_to_or_not(store, &mut session.driver, &mut progress, &site, &mut mended);
+        let came = came_to_or_not(
+            store,
+            &mut session.driver,
+            &mut progress,
+            &site,
+            &mut mended,
+        );
         match kept(store) {
             Ok(after) => {
                 say_mended(system, &mended, &after);

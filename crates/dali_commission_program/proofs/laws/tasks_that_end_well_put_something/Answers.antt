@@ -8,7 +8,8 @@ use Rattle.dali_commission_program.proofs.laws.tasks_that_end_well_put_something
 
 pub returns-clause-identify : goal.returns-clause-identify
 returns-clause-identify g c a records others was now x y shown =
-    more_is_not_nothing _ _ (shown_more a (talk_of g.R.Read.remaining g.W.Write.contents x.driver) (talk_of g.R.Read.remaining g.W.Write.contents y.driver) shown.0)
+    more_is_not_nothing _ _
+    (shown_more a (talk_of g.R.Read.remaining g.W.Write.contents x.driver) (talk_of g.R.Read.remaining g.W.Write.contents y.driver) shown.0)
 
 pub returns-clause-check : goal.returns-clause-check
 returns-clause-check g c records others was now x y checked =
@@ -41,5 +42,6 @@ pub returns-clause-replace : goal.returns-clause-replace
 returns-clause-replace g c wanted records others was now x y (random, replaces) nothing = (
   random,
   replaced g.F.Open.Keep.is_up g.F.Open.Keep.is_sound g.F.Open.Keep.holds g.F.Open.Keep.kept g.F.Open.Keep.block g.F.Stores.made g.F.Stores.saw
-      g.F.Stores.opens g.R.Read.remaining g.W.Write.contents (g.S.Voice.told c.args._system.now) wanted records random was now x.driver y.driver replaces nothing,
+      g.F.Stores.opens g.R.Read.remaining g.W.Write.contents (g.S.Voice.told c.args._system.now) wanted records random was now x.driver
+      y.driver replaces nothing,
 )
