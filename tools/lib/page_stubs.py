@@ -4,6 +4,7 @@ import json
 import os
 import pathlib
 import subprocess
+import sys
 import tempfile
 import typing
 
@@ -32,7 +33,7 @@ class Room:
         self.hold = self.folder / "hold"
 
     def words(self, tool: str, *words: str) -> list[str]:
-        return [str(ROOT / "tools" / tool), *words, "--program", str(PROGRAM), "--records", str(self.records)]
+        return [sys.executable, "-S", str(ROOT / "yolgibat"), tool, *words, "--program", str(PROGRAM), "--records", str(self.records)]
 
     def ran(self, tool: str, *words: str, given: str = "") -> tuple[str, str, int]:
         done = subprocess.run(self.words(tool, *words), input=given, capture_output=True, text=True, env=self.env, timeout=WAIT)

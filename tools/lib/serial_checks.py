@@ -6,9 +6,10 @@ import json
 import pathlib
 import subprocess
 
-from lib import ROOT, places, serials
+from lib import ROOT
 from lib.drive_stubs import Checks
 from lib.page_stubs import GEAR, Page, Room
+from yolgibat import places, serials
 
 # Two serial numbers that differ in one byte, and what is read of the first one.
 FIRST, OTHER = (4012345678901, 0x0123456789ABCDEF), (4012345678901, 0x0123456789ABCDEE)
