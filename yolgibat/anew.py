@@ -9,7 +9,7 @@ import stat
 import typing
 
 from yolgibat import dump, marks, places, serials
-from yolgibat.driver_words import BadWord
+from yolgibat.command import BadWord
 
 
 class Forms(typing.NamedTuple):

@@ -9,45 +9,19 @@ written; 126, 127 and 130 if the program is not there.
 import json
 import os
 import subprocess
-import sys
 import typing
 
-from yolgibat import ROOT, anew, programs, standard, telling
-from yolgibat.driver_words import BadWord
+from yolgibat import anew, command, programs, standard, telling
 
-LAUNCH = ROOT / "yolgibat/launch"
-BAD_WORD, FAILED = 2, 3
+FAILED = 3
 # The program ends so when it has told all that it has to tell: with a finding, and without.
 TOLD = (0, 4)
-
-
-def parted(words: list[str]) -> tuple[str, dict[str, str], list[str]]:
-    """The capture, the files of `--bench` and `--story`, and the words of the program."""
-    capture, files, rest, left = None, {}, [], list(words)
-    while left:
-        word = left.pop(0)
-        if word in ("--bench", "--story", "--wire"):
-            if not left or not left[0]:
-                raise BadWord(f"`{word}` takes a {'name' if word == '--wire' else 'file'}")
-            value = left.pop(0)
-            files, rest = (files, [*rest, word, value]) if word == "--wire" else ({**files, word: value}, rest)
-        elif word.startswith("--"):
-            rest.append(word)
-        elif capture is not None:
-            raise BadWord(f"`audit` takes one capture, and not '{word}' too")
-        else:
-            capture = word
-    if not capture:
-        raise BadWord("`audit` takes a capture: ./dali_sim audit CAPTURE")
-    if capture == "-" and files:
-        raise BadWord(f"with `{next(iter(files))}` the capture is a file")
-    return capture, files, rest
 
 
 def ran(words: list[str], capture: str, **more: typing.Any) -> tuple[bytes, int]:
     """What the program writes with these words, and its status."""
     with open(capture, "rb") as given:
-        done = subprocess.run([LAUNCH, "dali_audit_program", *words], stdin=given, stdout=subprocess.PIPE, **more)
+        done = subprocess.run([programs.LAUNCH, "dali_audit_program", *words], stdin=given, stdout=subprocess.PIPE, **more)
     return done.stdout, done.returncode if done.returncode >= 0 else 128 - done.returncode
 
 
@@ -85,8 +59,7 @@ def write_all(capture: str, words: list[str], paths: dict[str, str]) -> int:
     return 0
 
 
-def main(words: list[str]) -> int:
-    capture, paths, rest = parted(words)
+def main(capture: str, paths: dict[str, str], rest: list[str]) -> int:
     if capture != "-":
         if not os.access(capture, os.R_OK):
             standard.say(f"audit: the capture '{capture}' cannot be read")
@@ -94,14 +67,4 @@ def main(words: list[str]) -> int:
         if status := write_all(capture, rest, paths):
             return status
         os.dup2(os.open(capture, os.O_RDONLY), 0)
-    os.execv(LAUNCH, [LAUNCH, "dali_audit_program", *rest])
-
-
-def called(words: list[str]) -> int:
-    try:
-        return main(words)
-    except BadWord as wrong:
-        standard.say(f"error: {wrong}")
-        return BAD_WORD
-    except KeyboardInterrupt:
-        return programs.INTERRUPTED
+    command.become(programs.LAUNCH, "dali_audit_program", *rest)

@@ -22,60 +22,15 @@ import argparse
 import json
 import os
 import pathlib
-import re
 import resource
 import signal
 import sys
 import time
 import typing
 
-from yolgibat import buildings, commanding, driver_words, joining, places, programs, standard, working
+from yolgibat import buildings, command, commanding, joining, places, programs, standard, working
 
 BAD_WORD, NO_RECORDS = 2, 5
-TASKS = ("run", "check", "mend", "clear", "table", "replace", "page")
-
-
-def count_of(word: str) -> int:
-    """How many buses at once."""
-    if not re.fullmatch(r"[1-9][0-9]{0,3}", word):
-        raise argparse.ArgumentTypeError(f"'{word}' is no number from 1 to 9999")
-    return int(word)
-
-
-def address_of(word: str) -> int:
-    if not re.fullmatch(r"[0-9]{1,2}", word) or int(word) not in commanding.ADDRESSES:
-        raise driver_words.BadWord(f"'{word}' is no short address, 0 to 63")
-    return int(word)
-
-
-def chosen_of(words: list[str]) -> argparse.Namespace:
-    options = driver_words.Options(prog="dali_commission building", add_help=False, allow_abbrev=False)
-    options.add_argument("task", choices=TASKS)
-    options.add_argument("--building", required=True, type=pathlib.Path)
-    options.add_argument("--at-once", type=count_of)
-    options.add_argument("--json", action="store_true")
-    options.add_argument("--csv", action="store_true")
-    options.add_argument("--since", type=os.path.abspath)
-    options.add_argument("--port", type=driver_words.port_of, default=0)
-    options.add_argument("--open", action="store_true")
-    options.add_argument("--program", type=os.path.abspath)
-    options.add_argument("--missing", action="append", default=[])
-    options.add_argument("--yes", action="store_true")
-    options.add_argument("bus", nargs="*")
-    chosen = options.parse_intermixed_args(words)
-    for wrong, text in (
-        (chosen.csv and (chosen.json or chosen.task != "table"), "--csv is a form of `table`, beside no other"),
-        (chosen.since and chosen.task != "check", "--since is of `check`"),
-        (chosen.missing and chosen.task not in ("mend", "replace"), "--missing is of `mend` and `replace`"),
-        (chosen.yes and chosen.task != "clear", "--yes is of `clear`"),
-        ((chosen.port or chosen.open) and chosen.task != "page", "--port and --open are of `page`"),
-        (chosen.task == "page" and (chosen.bus or chosen.json or chosen.at_once), "`page` is of the whole building"),
-        (chosen.task == "replace" and len(chosen.bus) != 2, "`replace` wants a bus and a short address"),
-    ):
-        if wrong:
-            raise driver_words.BadWord(text)
-    chosen.address = address_of(chosen.bus.pop()) if chosen.task == "replace" else None
-    return chosen
 
 
 def missing_of(chosen: argparse.Namespace, entries: list[buildings.Entry]) -> dict[str, list[int]]:
@@ -84,8 +39,8 @@ def missing_of(chosen: argparse.Namespace, entries: list[buildings.Entry]) -> di
     for word in chosen.missing:
         bus, _, address = word.rpartition(":") if chosen.task == "mend" else (entries[0].name, "", word)
         if bus not in found:
-            raise driver_words.BadWord(f"--missing {word}: BUS:ADDRESS is wanted, and BUS is to be mended")
-        found[bus].append(address_of(address))
+            raise command.BadWord(f"--missing {word}: BUS:ADDRESS is wanted, and BUS is to be mended")
+        found[bus].append(command.address_of(address))
     return found
 
 
@@ -94,7 +49,7 @@ def jobs_of(chosen: argparse.Namespace, entries: list[buildings.Entry], program:
     missing = missing_of(chosen, entries)
     jobs = [working.Job(it, chosen.task, program, chosen.address, missing[it.name]) for it in entries]
     for bus, address in ((job.entry.name, it) for job in jobs if chosen.task == "mend" and job.missing for it in job.unknown()):
-        raise driver_words.BadWord(f"--missing {bus}:{address}: the table of this bus has no such short address")
+        raise command.BadWord(f"--missing {bus}:{address}: the table of this bus has no such short address")
     return jobs
 
 
@@ -126,7 +81,7 @@ def compare(jobs: list[working.Job], since: str) -> tuple[list[dict[str, typing.
         changes = found
         with places.alone(pathlib.Path(since).parent) as folder:
             places.write(pathlib.Path(since), now, folder)
-    except (places.Unreadable, OSError) as why:
+    except OSError as why:
         standard.say(f"error: {why}")
         return changes, NO_RECORDS
     return changes, 0
@@ -160,7 +115,7 @@ def written(
 def is_confirmed(building: buildings.Building, count: int) -> bool:
     """Whether so many buses are to be cleared: on a terminal that is typed."""
     if not os.isatty(0):
-        raise driver_words.BadWord("`clear` wants --yes, or a terminal on which it asks")
+        raise command.BadWord("`clear` wants --yes, or a terminal on which it asks")
     wanted, buses = f"clear {count}", "1 bus" if count == 1 else f"{count} buses"
     standard.say(f"{building.name}: all gear on {buses} lose their short addresses. Type {wanted} to go on: ", "")
     return sys.stdin.readline().strip() == wanted
@@ -184,19 +139,18 @@ def serve(chosen: argparse.Namespace, building: buildings.Building, program: str
     return serving.serve(make, opened, chosen.port, chosen.open, lambda: servers[-1].end())
 
 
-def main(words: list[str]) -> int:
-    chosen = chosen_of(words)
+def main(chosen: argparse.Namespace) -> int:
     if not chosen.building.is_file():
-        raise driver_words.BadWord(f"--building {chosen.building}: there is no such file")
+        raise command.BadWord(f"--building {chosen.building}: there is no such file")
     os.chdir(chosen.building.parent)
     building = buildings.read(pathlib.Path(chosen.building.name))
     entries = building.chosen(chosen.bus)
     if chosen.task == "replace" and len(entries) != 1:
-        raise driver_words.BadWord(f"'{chosen.bus[0]}' is more than one bus")
+        raise command.BadWord(f"'{chosen.bus[0]}' is more than one bus")
     if chosen.task == "clear" and not chosen.yes and not is_confirmed(building, len(entries)):
         standard.say("nothing was changed")
         return BAD_WORD
-    program, status = driver_words.program_of(chosen.program)
+    program, status = programs.commission(chosen.program)
     if status:
         return status
     limits = resource.getrlimit(resource.RLIMIT_NOFILE)
@@ -214,17 +168,3 @@ def main(words: list[str]) -> int:
     well = sum(not it.status() for it in jobs)
     standard.say(f"{building.name}: {well} of {len(jobs)} buses ended well, after {time.monotonic() - begun:.0f} s")
     return standard.ended(written(chosen, building, jobs, changes, status), status)
-
-
-def called(words: list[str]) -> int:
-    try:
-        standard.fill()
-        return main(words)
-    except (driver_words.BadWord, buildings.Wrong) as wrong:
-        standard.say(f"error: {wrong}")
-        return BAD_WORD
-    except (places.Unreadable, OSError) as why:
-        standard.say(f"error: {why}")
-        return NO_RECORDS
-    except KeyboardInterrupt:
-        return programs.INTERRUPTED

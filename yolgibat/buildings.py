@@ -8,7 +8,7 @@ import re
 import shlex
 import typing
 
-from yolgibat import commanding, driver_words, places
+from yolgibat import command, commanding, places
 
 # What a table of the file may have: of the whole, of [defaults], and of a [[bus]].
 WHOLE, DEFAULTS = ("name", "defaults", "bus"), ("driver-timeout", "block", "others")
@@ -19,7 +19,7 @@ HEAD, KEY = re.compile(r"\s*\[+\s*([\w.-]+)\s*\]+\s*(?:#.*)?"), re.compile(r"\s*
 AT = re.compile(r" \(at (?:line (\d+), column \d+|end of document)\)$")
 
 
-class Wrong(Exception):
+class Wrong(command.BadWord):
     """What is wrong with a file: its line, its key and the reason."""
 
 
@@ -51,7 +51,7 @@ class Building(typing.NamedTuple):
         """The buses of these names, or that lie in these parts of the building; all of them if none is named."""
         for name in names:
             if not any(is_in(it.name, name) for it in self.entries):
-                raise driver_words.BadWord(f"no bus of the building is called '{name}', or lies in it")
+                raise command.BadWord(f"no bus of the building is called '{name}', or lies in it")
         return [it for it in self.entries if not names or any(is_in(it.name, name) for name in names)]
 
 
@@ -91,7 +91,7 @@ class Table:
 
     def block(self, key: str, value: object) -> str:
         try:
-            return driver_words.block_of(value if isinstance(value, str) else str(value))
+            return command.block_of(value if isinstance(value, str) else str(value))
         except argparse.ArgumentTypeError as why:
             raise self.wrong(key, str(why)) from why
 
@@ -162,9 +162,9 @@ def entry_of(table: Table, defaults: dict[str, typing.Any]) -> Entry:
         taken |= set(range(first, last + 1))
     seconds = table.found.get("driver-timeout")
     try:
-        driver = driver_words.command_of([title])
-        seconds = driver_words.seconds_of([] if seconds is None else [str(seconds)])
-    except driver_words.BadWord as why:
+        driver = command.command_of([title])
+        seconds = command.seconds_of([] if seconds is None else [str(seconds)])
+    except command.BadWord as why:
         raise table.wrong("driver-timeout" if str(why).startswith("--driver-timeout") else "driver", str(why)) from why
     return Entry(name, driver, title, seconds, records, others)
 

@@ -415,7 +415,7 @@ class Bus:
             return
         try:
             self.keep(command, old)
-        except (OSError, places.Unreadable) as why:
+        except OSError as why:
             command.hear(f"what it came to is known, but not kept: {why}")
 
     def keep(self, command: Command, old: str | None) -> None:

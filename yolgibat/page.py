@@ -18,49 +18,95 @@ of the records cannot be written; 126, 127 and 130 if the program is not there; 
 """
 
 import argparse
+import collections.abc
+import json
+import os
 import pathlib
-import sys
+import threading
+import typing
 
-from yolgibat import choosing, commanding, driver_words, joining, programs, serving, standard
+from yolgibat import ROOT, command, commanding, joining, programs, serving, standard, texts
 
 BAD_WORD, NO_RECORDS = 2, 5
+PAGE = ROOT / "yolgibat/choose.html"
+ASKED = ("records", "driver", "block")
 
 
-def chosen_of(words: list[str]) -> argparse.Namespace:
-    """What the command line asks for."""
-    rest, given = driver_words.parted(words)
-    options = driver_words.Options(prog="dali_commission page", add_help=False, allow_abbrev=False)
-    options.add_argument("--records", action="append", required=True)
-    options.add_argument("--others", action="append", type=driver_words.block_of, default=[])
-    options.add_argument("--port", type=driver_words.port_of, default=0)
-    options.add_argument("--open", action="store_true")
-    options.add_argument("--program")
-    options.add_argument("block", nargs="?", type=driver_words.block_of, default="0-63")
-    chosen = options.parse_args(rest)
-    chosen.driver, chosen.seconds = driver_words.command_of(given["--driver"]), driver_words.seconds_of(given["--driver-timeout"])
-    chosen.title = given["--driver"][0]
-    return chosen
+# The page that asks for the file of the records and for the driver, before the page of the bus is served in its place: at the same port, under
+# the address that the file keeps, or else the same one.
 
 
-def asked_of(words: list[str]) -> argparse.Namespace:
-    """The port, and whether a browser is started, if the page is to ask for all else."""
-    options = driver_words.Options(prog="dali_commission page", add_help=False, allow_abbrev=False)
-    options.add_argument("--ask", action="store_true", required=True)
-    options.add_argument("--port", type=driver_words.port_of, default=0)
-    options.add_argument("--open", action="store_true")
-    return options.parse_args(words)
+class Server(serving.Server):
+    """The server of that page. `read` makes of words what the command line asks for. What was chosen stands in `chosen`, with the file that
+    keeps the address, which is open."""
+
+    def __init__(self, port: int, read: collections.abc.Callable[[list[str]], typing.Any]) -> None:
+        page = serving.source(PAGE)
+        self.read, self.chosen, self.opened, self.choice = read, None, None, threading.Lock()
+        self.choose_pages = {it: serving.filled(page, it) for it in texts.languages()}
+        self.choose_policy = serving.policy(page)
+        super().__init__(None, port, "", Handler)
+
+    def choose(self, asked: dict[str, typing.Any]) -> str:
+        """Takes what is asked for, and ends this page. The token of the next one."""
+        if not all(isinstance(asked.get(it), str) and asked[it].strip() for it in ASKED):
+            raise commanding.Bad("a file, a driver and a block are wanted")
+        words = ["--records", os.path.expanduser(asked["records"].strip()), "--driver", asked["driver"], asked["block"].strip()]
+        try:
+            chosen = self.read(words)
+        except command.BadWord as why:
+            raise commanding.Bad(str(why)) from why
+        if not programs.can_start("dali_commission", chosen.driver):
+            raise commanding.Bad(f"the driver '{chosen.driver[0]}' cannot be started: it is no program that can be run")
+        with self.choice:
+            if self.chosen:
+                raise commanding.Busy("a file and a driver were chosen already")
+            self.opened = serving.locked(pathlib.Path(f"{chosen.records[0]}.page"))
+            if not self.opened:
+                raise commanding.Busy("a page is served over these records already")
+            self.chosen, chosen.port = chosen, self.server_address[1]
+        token = serving.kept_of(self.opened).token or self.token
+        self.opened.seek(0)
+        self.opened.truncate()
+        print(f"http://{self.hosts[0]}/{token}/", end="", file=self.opened, flush=True)
+        threading.Thread(target=self.shutdown).start()
+        return token
 
 
-def main(words: list[str]) -> int:
-    opened = None
-    if "--ask" in words:
-        asked = asked_of(words)
-        chosen, opened = choosing.chosen(asked.port, asked.open, chosen_of)
-    else:
-        chosen = chosen_of(words)
-    if not driver_words.can_start("dali_commission", chosen.driver):
+class Handler(serving.Handler):
+    """One request."""
+
+    def answer(self, known: dict[str, collections.abc.Callable[[], None]]) -> None:
+        super().answer({"GET": {"": self.show_choice}, "POST": {"choose": self.choose}}[self.command])
+
+    def show_choice(self) -> None:
+        self.write(200, "text/html", self.server.choose_pages[self.language()], policy=self.server.choose_policy)
+
+    def choose(self) -> None:
+        self.write(200, "application/json", json.dumps({"token": self.server.choose(self.body())}))
+
+
+def chosen(port: int, is_opened: bool, read: collections.abc.Callable[[list[str]], typing.Any]) -> tuple[typing.Any, typing.TextIO]:
+    """Serves the page until a file and a driver are chosen, and says which."""
+    with Server(port, read) as server:
+        serving.tell(server.address(), is_opened)
+        server.serve_forever()
+    standard.say(f"the records are in {os.path.abspath(server.chosen.records[0])}")
+    return server.chosen, server.opened
+
+
+# The page of a bus.
+
+
+def ask(asked: argparse.Namespace) -> int:
+    """Serves a page that asks for the file and the driver, and then that of the bus."""
+    return main(*chosen(asked.port, asked.open, command.of_page))
+
+
+def main(chosen: argparse.Namespace, opened: typing.TextIO | None = None) -> int:
+    if not programs.can_start("dali_commission", chosen.driver):
         return joining.NOT_STARTED
-    program, status = driver_words.program_of(chosen.program)
+    program, status = programs.commission(chosen.program)
     if status:
         return status
     file = pathlib.Path(f"{chosen.records[0]}.page")
@@ -79,13 +125,3 @@ def main(words: list[str]) -> int:
     except OSError as why:
         standard.say(f"error: the page cannot be served: {why.strerror}")
         return BAD_WORD
-
-
-def called(words: list[str]) -> int:
-    try:
-        return main(words)
-    except driver_words.BadWord as wrong:
-        standard.say(f"error: {wrong}")
-        return BAD_WORD
-    except KeyboardInterrupt:
-        return programs.INTERRUPTED

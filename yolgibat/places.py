@@ -25,7 +25,7 @@ HEXADECIMAL, FORMULA = "0x", re.compile(r"'*[=+@\-\uff1d\uff0b\uff20\uff0d]")
 Row = dict[str, typing.Any]
 
 
-class Unreadable(Exception):
+class Unreadable(OSError):
     """A file that has no places, and is left as it is."""
 
 

@@ -1,4 +1,4 @@
-"""Passes the lines of a program to its driver, one at a time, and what it answers back: yolgibat/drive.py says how."""
+"""Passes the lines of a program to its driver, one at a time, and what it answers back: joining.py says how."""
 
 import math
 import os

@@ -1,4 +1,4 @@
-"""Serves a page on the loopback, to whom its address was told: yolgibat/page.py says how."""
+"""Serves a page on the loopback, to whom its address was told: page.py says how."""
 
 import base64
 import collections.abc
@@ -240,7 +240,7 @@ class Handler(http.server.BaseHTTPRequestHandler):
             self.write(409, "text/plain", f"{why}\n", ("Why", "busy"))
         except walking.Moved as why:
             self.write(409, "text/plain", f"{why}\n", ("Why", why.key))
-        except (places.Unreadable, OSError) as why:
+        except OSError as why:
             self.write(500, "text/plain", f"{self.said(str(why))}\n")
 
     def asked(self) -> str:

@@ -20,30 +20,13 @@ import os
 import pathlib
 import select
 import subprocess
-import sys
 
-from yolgibat import driver_words, joining, places, programs, serials, standard
+from yolgibat import joining, places, programs, serials, standard
 
-BAD_WORD, NO_RECORDS, NOBODY = 2, 5, 10
+NOBODY = 10
 COMMANDS = """Type where each luminaire hangs, or nothing to leave it as it is.
 /again blinks anew, /later puts it behind all others, /back goes back to the one before, /end ends the walk, /help says this.
 """
-
-
-def chosen_of(words: list[str]) -> argparse.Namespace:
-    rest, given = driver_words.parted(words)
-    options = driver_words.Options(prog="dali_commission", add_help=False, allow_abbrev=False)
-    options.add_argument("task", choices=["table", "identify"])
-    options.add_argument("--records", required=True)
-    options.add_argument("--program")
-    form = options.add_mutually_exclusive_group()
-    for name in ("csv", "json", "names", "all"):
-        (form if name in ("csv", "json") else options).add_argument(f"--{name}", action="store_true")
-    chosen = options.parse_args(rest)
-    if not (chosen.names if chosen.task == "table" else chosen.all) or chosen.names and chosen.all:
-        raise driver_words.BadWord("it is either table --names or identify --all")
-    chosen.given = given
-    return chosen
 
 
 def table_of(program: str, chosen: argparse.Namespace) -> tuple[list[places.Row], int]:
@@ -139,8 +122,7 @@ class Walk:
 
 
 def walks(program: str, chosen: argparse.Namespace, rows: list[places.Row], file: pathlib.Path) -> int:
-    driver, seconds = driver_words.command_of(chosen.given["--driver"]), driver_words.seconds_of(chosen.given["--driver-timeout"])
-    walk = Walk(program, driver, seconds, file, rows)
+    walk = Walk(program, chosen.driver, chosen.seconds, file, rows)
     try:
         return walk.run()
     except standard.Unwritten as why:
@@ -150,14 +132,10 @@ def walks(program: str, chosen: argparse.Namespace, rows: list[places.Row], file
         walk.stop()
 
 
-def main(words: list[str]) -> int:
-    chosen = chosen_of(words)
-    if chosen.task == "identify":
-        if not driver_words.can_start("dali_commission", driver_words.command_of(chosen.given["--driver"])):
-            return joining.NOT_STARTED
-    elif any(chosen.given.values()):
-        raise driver_words.BadWord("a table is read without a driver")
-    program, status = driver_words.program_of(chosen.program)
+def main(chosen: argparse.Namespace) -> int:
+    if chosen.task == "identify" and not programs.can_start("dali_commission", chosen.driver):
+        return joining.NOT_STARTED
+    program, status = programs.commission(chosen.program)
     if status:
         return status
     table, status = table_of(program, chosen)
@@ -169,17 +147,3 @@ def main(words: list[str]) -> int:
         return walks(program, chosen, rows, file)
     form = places.as_csv if chosen.csv else places.as_json if chosen.json else places.as_text
     return standard.ended(form(rows), 0)
-
-
-def called(words: list[str]) -> int:
-    try:
-        standard.fill()
-        return main(words)
-    except driver_words.BadWord as wrong:
-        standard.say(f"error: {wrong}")
-        return BAD_WORD
-    except (places.Unreadable, OSError) as why:
-        standard.say(f"error: {why}")
-        return NO_RECORDS
-    except KeyboardInterrupt:
-        return programs.INTERRUPTED

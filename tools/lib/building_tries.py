@@ -21,7 +21,7 @@ from yolgibat import buildings, marks, places, working
 
 STUB = ROOT / "tools/lib/commission_stub.py"
 # How the script is called: without what a site adds to Python, which it does not need.
-COMMAND = (sys.executable, "-S", ROOT / "yolgibat", "building")
+COMMAND = (sys.executable, "-S", ROOT / "yolgibat/__main__.py", "dali_commission", "building")
 # A driver that answers each frame, of this name.
 DRIVER = "sh -c 'while read -r line; do echo silence; done' {}"
 NAMES = ["school.ground.1", "school.ground.2", "school.first.1", "gym"]

@@ -1,6 +1,6 @@
 """What somebody uses who has no kit, as files of an archive: the programs, their launchers, adapters, examples, manuals and licences.
 
-What runs are the folders of RUNS, whole, and the launchers without what builds. tools/lib/packaged has files for Debian alone.
+What runs are the launchers, the folders of RUNS and the programs. tools/lib/packaged has files for Debian alone.
 """
 
 import pathlib
@@ -13,8 +13,6 @@ LAUNCHERS = ("dali_commission", "dali_sim", "dali_view")
 PACKAGED = ROOT / "tools/lib/packaged"
 # What runs, beside the launchers and the programs: all files of these folders.
 RUNS = ("yolgibat", "adapters", "include")
-# The lines of launchers that build or tell of it.
-BUILDS = re.compile(r"^(?:.*tools/build\b.*|#(?!!).*)\n", re.M)
 # A launcher as it is called in a clone, in a text of a launcher or a tool.
 IN_CLONE = re.compile(rb"\./dali_(commission|sim|view)\b")
 # The pages for installers. What they lead to beside these and their pictures is left out, and so are the links to it.
@@ -66,11 +64,6 @@ def kit_crates(made: list[proving.Crate] | None = None) -> list[str]:
     return sorted(found)
 
 
-def launcher(name: str) -> str:
-    """A launcher without what builds."""
-    return BUILDS.sub("", (ROOT / name).read_text())
-
-
 def files(folder: pathlib.Path) -> list[pathlib.Path]:
     """The files below a folder, but not what Python makes of them."""
     return [it for it in folder.rglob("*") if it.is_file() and "__pycache__" not in it.parts]
@@ -78,8 +71,7 @@ def files(folder: pathlib.Path) -> list[pathlib.Path]:
 
 def running(made: dict[str, bytes], is_installed: bool = False) -> Files:
     """What runs. Once it is installed, the texts name the launchers as they are called then."""
-    found = packing.read(*(file for it in RUNS for file in files(ROOT / it)))
-    found |= {it: Entry(launcher(it).encode(), True) for it in LAUNCHERS}
+    found = packing.read(*(ROOT / it for it in LAUNCHERS), *(file for it in RUNS for file in files(ROOT / it)))
     for name, it in found.items():
         if name.startswith("yolgibat/help/"):
             text = it.content.decode()
