@@ -13,7 +13,8 @@ struct pins {
     uint8_t is_open;
 };
 
-/* The last edge of the own forward frame was at this time. The next edge is that of an answer. */
+/* The last edge of the own forward frame was at this time. It may be handed to pins_edge too, if the transceiver tells it
+ * late; no other edge of that frame is. */
 void pins_sent(struct pins *pins, uint32_t time);
 
 /* An edge, at the time that the timer captured for it. `is_low` is 0 if the bus is high after it. */

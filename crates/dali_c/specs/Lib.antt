@@ -12,4 +12,6 @@ pub mod Levels
 pub mod Receivers
 pub mod Passes
 pub mod Calls
+pub mod Stops
 pub mod Hosts
+pub mod Progress
