@@ -6,8 +6,8 @@ use Rattle.dali_port.specs.declared.state.{Port.Port, Phase.Phase}
 use Rattle.dali_port.specs.declared.state.Phase.TheVariants.{Free, Waiting, Sending, Breaking, Listening}
 use Rattle.dali_port.specs.declared.state.Sending.{Sending as Sent}
 use Rattle.dali_port.specs.Times.{half_bit}
-use Rattle.dali_port.specs.Frames.{driven_in, agreed_by, compared_by, compared, turned, next_of, sent_beyond, sent_until}
-use Rattle.dali_port.specs.Ports.{until_in, until, edged, lost_in, lost, on_course}
+use Rattle.dali_port.specs.Frames.{driven_in, same, agreed_by, compared_by, compared, turned, next_of, sent_beyond, sent_until}
+use Rattle.dali_port.specs.Ports.{broken_at, until_in, until, edged, lost_in, lost, on_course}
 use Rattle.dali_port.specs.Calls.{is_backwards, timed, timer_after, same_level, edge_after, lost_after}
 use Rattle.dali_port.specs.Laws.{GoesOn}
 
@@ -64,8 +64,14 @@ timed_course (course.Goes u) q s t now e = ap (λ x. course.Goes x) (sent_is u t
 timed_course course.Destroyed q s t now e = let no : Breaking now ≡ Sending t = e in absurd (cc)
 timed_course course.Whole q s t now e = let no : Listening _ ≡ Sending t = e in absurd (cc)
 
+not_led : (b : Bool) (q x : Port) (u t : Sent) (now : ℕ) → q.phase ≡ Sending u → x.phase ≡ Breaking now → (if b then q else x).phase ≡ Sending t → u ≡ t
+not_led true q x u t now sends breaks e = sent_is u t (sym sends ∙ e)
+not_led false q x u t now sends breaks e = let no : Breaking now ≡ Sending t = sym breaks ∙ e in absurd (cc)
+
 edged_course : (c : Course) (q : Port) (s t : Sent) (low : Bool) (now : ℕ) → (edged (on_course q s now c) low now).phase ≡ Sending t → c ≡ course.Goes t
-edged_course (course.Goes u) q s t low now e = ap (λ x. course.Goes x) (sent_is u t e)
+edged_course (course.Goes u) q s t low now e =
+    ap (λ x. course.Goes x)
+    (not_led (same (driven_in u) low) (record q { phase = Sending u }) (broken_at (record q { phase = Sending u }) u.order.frame now) u t now refl refl e)
 edged_course course.Destroyed q s t low now e = let no : Breaking now ≡ Sending t = e in absurd (cc)
 edged_course course.Whole q s t low now e = let no : Listening _ ≡ Sending t = e in absurd (cc)
 

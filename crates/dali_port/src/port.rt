@@ -337,7 +337,12 @@ impl Port {
                 self.is_over = true;
                 self.phase = lapses(order);
             }
-            Phase::Sending(_) | Phase::Breaking(_) => {}
+            Phase::Sending(sending) => {
+                if sending.is_low() != is_low {
+                    self.destroy(sending.order.frame, now);
+                }
+            }
+            Phase::Breaking(_) => {}
             Phase::Listening(listening) => {
                 let mut window = listening.window;
                 window.edge(is_low, since);
