@@ -11,5 +11,6 @@ pub mod Machines
 pub mod Levels
 pub mod Receivers
 pub mod Passes
+pub mod Port
 pub mod Calls
 pub mod Hosts
