@@ -472,8 +472,9 @@ uint8_t dali_levels_new(struct dali_levels *levels, uint8_t address_byte, uint8_
 /* A window, at the last edge of the own forward frame. Make one after each frame, also one with `asks` 0. */
 uint8_t dali_window_new(struct dali_window *window);
 
-/* An edge. `micros` of the first one are those since the last edge of the own forward frame. A low that is no bit of an
- * answer damages what is heard, but for one that is shorter than 100 us.
+/* An edge. `micros` of the first one are those since the last edge of the own forward frame. An edge to high before any
+ * low and before 2400 us is an echo of that last edge, and changes nothing. A low that is no bit of an answer damages
+ * what is heard, but for one that is shorter than 100 us.
  *
  * DALI_BAD_ARGUMENT: `window` is none, or `is_low` is neither 0 nor 1. */
 uint8_t dali_window_edge(struct dali_window *window, uint8_t is_low, uint32_t micros);
