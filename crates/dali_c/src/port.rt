@@ -381,7 +381,8 @@ pub extern "C" fn dali_port_send(
     let (Some(mut running), Some(order)) = (port.read(), order_sent(order, drawn)) else {
         return status::BAD_ARGUMENT;
     };
-    let told = running.send(&order, time_at(running.called, now));
+    let time = time_at(running.called, now);
+    let told = running.send(&order, time);
     answer(told, &running, port, event)
 }
 
@@ -402,7 +403,8 @@ pub extern "C" fn dali_port_edge(
     let (Some(mut running), Some(is_low)) = (port.read(), bool_of(is_low)) else {
         return status::BAD_ARGUMENT;
     };
-    let told = running.edge(is_low, time_at(running.called, now));
+    let time = time_at(running.called, now);
+    let told = running.edge(is_low, time);
     answer(told, &running, port, event)
 }
 
@@ -423,7 +425,8 @@ pub extern "C" fn dali_port_lost(
     let (Some(mut running), Some(is_low)) = (port.read(), bool_of(is_low)) else {
         return status::BAD_ARGUMENT;
     };
-    let told = running.lost(is_low, time_at(running.called, now));
+    let time = time_at(running.called, now);
+    let told = running.lost(is_low, time);
     answer(told, &running, port, event)
 }
 
@@ -439,6 +442,7 @@ pub extern "C" fn dali_port_timer(port: &mut PlainPort, now: u32, event: &mut Pl
     let Some(mut running) = port.read() else {
         return status::BAD_ARGUMENT;
     };
-    let told = running.timer(time_at(running.called, now));
+    let time = time_at(running.called, now);
+    let told = running.timer(time);
     answer(told, &running, port, event)
 }

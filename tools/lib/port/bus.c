@@ -57,7 +57,7 @@ struct host {
     uint32_t late, length, spikes;
     moment free_at;
     uint32_t captured;
-    uint8_t is_captured, has_overrun, sees_low, drives_low, is_up;
+    uint8_t is_captured, has_overrun, sees_low, drives_low, pin_low, is_up;
     /* The frame under way: when it was handed in, and when it began. */
     struct dali_order order;
     uint8_t is_busy, is_begun;
@@ -546,8 +546,10 @@ static void dispatch(struct event event)
             pins_interrupt(&it->pins);
         break;
     case DRIVEN:
-        if (it->is_up && event.stamp == it->lives)
+        if (it->is_up && event.stamp == it->lives && it->pin_low != event.value) {
+            it->pin_low = (uint8_t)event.value;
             pull(event.value);
+        }
         break;
     case TOGGLE:
         pull(event.value);
@@ -705,9 +707,9 @@ static void site_down(struct host *it)
 {
     struct view *view = &it->view;
 
-    if (it->drives_low)
+    if (it->pin_low)
         pull(0);
-    it->drives_low = it->is_up = it->is_captured = it->has_overrun = 0;
+    it->pin_low = it->drives_low = it->is_up = it->is_captured = it->has_overrun = 0;
     it->lives++;
     view->is_pending = 0;
     view->stamp++;
