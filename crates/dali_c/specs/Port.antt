@@ -1,6 +1,6 @@
 use Rattle.std.specs.Prelude.{◌≡◌, ℕ, ◌+◌, ◌-◌, ◌/◌, ◌%◌, ◌^◌, ◌==◌, ◌&&◌, min, nat_lt, nat_le}
-use Rattle.std.specs.Prelude.{Bool, true, false, List, [], ◌∷◌, Option, Some, None, option_map, Result, Ok, Err}
-use Rattle.std.specs.Prelude.{if◌then◌else◌}
+use Rattle.std.specs.Prelude.{Bool, true, false, List, [], ◌∷◌, Option, Some, None, option_map}
+use Rattle.std.specs.Prelude.{Result, Ok, Err, if◌then◌else◌}
 use Rattle.dali_frame.specs.declared.frames.Forward.{Forward}
 use Rattle.dali_script.specs.declared.orders.Input.{Input}
 use Rattle.dali_script.specs.declared.orders.Input.TheVariants as input
@@ -11,7 +11,8 @@ use Rattle.dali_port.specs.declared.orders.Order.{Order}
 use Rattle.dali_port.specs.declared.orders.Word.{Word}
 use Rattle.dali_port.specs.declared.orders.Word.TheVariants.{Heard, Destroyed, Lapsed}
 use Rattle.dali_port.specs.declared.orders.Refusal.{Refusal}
-use Rattle.dali_port.specs.declared.orders.Refusal.TheVariants.{Backwards, Busy, NotLater, BeyondSpan}
+use Rattle.dali_port.specs.declared.orders.Refusal.TheVariants.{Backwards, Busy, NotLater}
+use Rattle.dali_port.specs.declared.orders.Refusal.TheVariants.{BeyondSpan}
 use Rattle.dali_port.specs.declared.state.Phase.{Phase}
 use Rattle.dali_port.specs.declared.state.Phase.TheVariants.{Free, Waiting, Sending, Breaking}
 use Rattle.dali_port.specs.declared.state.Phase.TheVariants.{Listening}
@@ -95,7 +96,8 @@ phase_of p =
     })) (order_in p) else
     (if p.phase == 3 then Some (Breaking p.since) else
     (if p.phase == 4
-    then option_map (λ w. Listening (record { asks = is_so p.asks; window = w })) (window_of p.window)
+    then option_map (λ w. Listening (record { asks = is_so p.asks; window = w }))
+    (window_of p.window)
     else None))))
 
 abbrev pub port_with : PlainPort → Option Receiver → Option Phase → Option Port
@@ -130,7 +132,8 @@ IsWord code byte (Some word) = input_of code byte ≡ Some (input_for word)
 abbrev pub IsRead : PlainTold → Option Read → Type 0
 IsRead t None = IsTold t None
 IsRead t (Some (Frame told)) = IsTold t (Some told)
-IsRead t (Some NoPower) = (t.kind ≡ 5) × (t.bytes ≡ 0 ∷ 0 ∷ 0 ∷ []) × (number_of t.lasted ≡ 0)
+IsRead t (Some NoPower) =
+    (t.kind ≡ 5) × (t.bytes ≡ 0 ∷ 0 ∷ 0 ∷ []) × (number_of t.lasted ≡ 0)
 
 -- and what to drive then, and when to call again
 pub record IsEvent (e : PlainEvent) (told : Event) (p : Port) : Type 0 where
@@ -140,7 +143,7 @@ pub record IsEvent (e : PlainEvent) (told : Event) (p : Port) : Type 0 where
   pub word : IsWord e.input e.byte told.word
   pub read : IsRead e.read told.read
 
--- WHAT A CALL ANSWERS: OK, and the port after it with what it tells; or by which name it is refused,
+-- WHAT A CALL ANSWERS: OK, and the port after it with what it tells; or why it is refused,
 -- and nothing is written
 abbrev pub refusal_code : Refusal → ℕ
 refusal_code Backwards = 10

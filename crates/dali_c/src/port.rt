@@ -358,7 +358,13 @@ pub extern "C" fn dali_port_new(
         return status::BAD_ARGUMENT;
     };
     let running = Port::new(is_low, TURN + u64::from(now));
-    *event = PlainEvent::of(Event { word: None, read: None }, &running);
+    *event = PlainEvent::of(
+        Event {
+            word: None,
+            read: None,
+        },
+        &running,
+    );
     port.set(&running);
     status::OK
 }

@@ -217,7 +217,8 @@ edge_in (Waiting order) p low now = record p {
   is_over = true;
   phase = lapses order;
 }
-edge_in (Sending s) p low now = if same (driven_in s) low then p else broken_at p s.order.frame now
+edge_in (Sending s) p low now =
+    if same (driven_in s) low then p else broken_at p s.order.frame now
 edge_in (Breaking since) p low now = p
 edge_in (Listening l) p low now = record p {
   phase = Listening (record l { window = window_after l.window low (since_edge p now) });
