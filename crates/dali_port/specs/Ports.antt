@@ -197,7 +197,7 @@ abbrev pub event_until : Port → ℕ → Event
 event_until p now = event_in p.phase p now
 
 -- AN EDGE. While a frame of the port is on the bus, an edge to another level than the one that is
--- driven destroys it: the bus follows what is driven, and leads in nothing. In the window an edge is
+-- driven destroys it: the bus follows what is driven, and never leads. In the window an edge is
 -- heard; else it is read, and ends the transaction: a later frame that waits lapses.
 abbrev pub lapses : Order → Phase
 lapses order = if is_later order then Free else Waiting order
