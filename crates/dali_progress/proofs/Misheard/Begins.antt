@@ -1,4 +1,4 @@
-use Rattle.std.proofs.Common.{◌≡◌, ℕ, ◌-◌, ◌+◌, ◌*◌, ◌<◌, ◌≤◌, ◌⊎◌, inl, inr, Bool, true, false, List, [], refl, sym, ap, subst, ◌∙◌, arith, length, Option}
+use Rattle.std.proofs.Common.{◌≡◌, ℕ, ◌-◌, ◌+◌, ◌*◌, ◌<◌, ◌≤◌, ◌⊎◌, inl, inr, Bool, true, false, List, [], refl, sym, ap, subst, ◌∙◌, arith, Option}
 use Rattle.std.proofs.Common.{Some, None, not, nat_lt, if◌then◌else◌}
 use Rattle.std.proofs.lemmas.Bool.Decides.{nat_tests}
 use Rattle.dali_frame.specs.{Priority.LATER, Random.MASK24, declared.frames.Forward.Forward, declared.numbers.SearchAddress.SearchAddress}
@@ -19,20 +19,14 @@ use Rattle.dali_controller.specs.declared.{shorts.Shorts.Shorts, tally.Tally.Tal
 use Rattle.dali_controller.proofs.Given.{IsGivenBy}
 use Rattle.dali_controller.proofs.Given as given
 use Rattle.dali_events.{specs.Wanted.gear_of, specs.Wanted.is_wanted, specs.Wanted.wants, proofs.Search.Opened.OpenedBy}
-use Rattle.dali_progress.proofs.Census.Coming.{asked_later, asked_before, unasked_enrolled}
-use Rattle.dali_progress.proofs.{Census.Left.asked_within, Later.IsUnasked, Later.later_leaves, Later.turn_unasked, Misheard.Gear.Each}
-use Rattle.dali_progress.proofs.Misheard.{Gear.AreSought, Gear.AreBare, Gear.AreKnown, Stands.IsCounted, Stands.IsSpent, Stands.HuntStage, Stands.Rises}
-use Rattle.dali_progress.proofs.Misheard.Stands.{IsReached, IsPast, HuntAt, Hunts, EndsBy, AreTabledBelow, AreSeen, IsCensus, KnownAt, At, MisheardStands}
-use Rattle.dali_progress.proofs.Survey.{Drawn.woken_short, Queried.OneShort, Queried.IsTrue, Stands.AreTaken, Woken.AreLow}
-use Rattle.dali_progress.proofs.Surveying.{roll_first, IsClear}
 use Rattle.dali_progress.proofs.Misheard.Climbing as climbing
+use Rattle.dali_progress.{proofs.Census.Coming.{asked_later, asked_before, unasked_enrolled}, proofs.Census.Left.asked_within, proofs.Later.IsUnasked}
+use Rattle.dali_progress.{proofs.Later.{later_leaves, turn_unasked}, proofs.Misheard.Gear.{Each, AreSought, AreBare, AreKnown}}
+use Rattle.dali_progress.proofs.Misheard.Stands.{IsCounted, IsSpent, HuntStage, Rises, IsReached, IsPast, HuntAt, Hunts, EndsBy, AreTabledBelow, AreSeen}
+use Rattle.dali_progress.{proofs.Misheard.Stands.{IsCensus, KnownAt, At, MisheardStands, Calm}, proofs.Survey.Drawn.woken_short, proofs.Survey.Queried.OneShort}
+use Rattle.dali_progress.{proofs.Survey.Queried.IsTrue, proofs.Survey.Stands.AreTaken, proofs.Survey.Woken.AreLow, proofs.Surveying.{roll_first, IsClear}}
 
 -- A TRANSACTION BEGINS, or goes on; and what is to come of an order.
-
-pub record Calm (g : ℕ) (m : Machine) (gs : List Gear) : Type 0 where
-  pub there : g < length gs
-  pub tries : m.tries ≡ 0
-  pub way : m.course.way ≡ Surveying
 
 -- a record is to be kept in the census, and then the next short address is asked. If that is done for the first time, something
 -- else that is reserved for the number may be released then.
@@ -44,7 +38,7 @@ pub record KeepsAsked (g : ℕ) (k : Kept) (heard : Shorts) (c : Course) (silent
   pub census : IsCensus c.from c.tally k heard gs
 
 -- one is to be kept of a visit that succeeded, and then the search goes on above it
-pub record KeepsPast (g : ℕ) (k : Kept) (heard : Shorts) (c : Course) (silent : ℕ) (gs : List Gear) : Type 0 where
+pub record Past (g : ℕ) (c : Course) (silent : ℕ) (gs : List Gear) : Type 0 where
   pub opened_is : c.opened ≡ true
   pub counted : IsCounted g c.tally silent 0 gs
   pub low : AreLow gs
@@ -54,7 +48,9 @@ pub record KeepsPast (g : ℕ) (k : Kept) (heard : Shorts) (c : Course) (silent 
   pub visited : ℕ
   pub drawn : visited < MASK24
   pub past : IsPast c.ascent visited gs
-  pub known : AreSeen k heard gs
+
+abbrev pub KeepsPast : ℕ → Kept → Shorts → Course → ℕ → List Gear → Type 0
+KeepsPast g k heard c silent gs = Past g c silent gs × AreSeen k heard gs
 
 -- a reservation is to be kept, and then its gear is visited once more
 pub record KeepsReserved (g : ℕ) (k : Kept) (heard : Shorts) (c : Course) (silent a r : ℕ) (gs : List Gear) : Type 0 where
@@ -91,12 +87,6 @@ IsNext g m (Put p f) gs = MisheardStands false g m gs
 IsNext g m (Commit x) gs = Calm g m gs × Keeps g m.kept m.heard m.course m.silent x gs
 IsNext g m (Done e) gs = EndsBy g e m.kept m.heard gs
 IsNext g m (Halt why) gs = ⊥
-
-pub calm_ordered : {told : Bool} (g : ℕ) (t : Machine) (x : Record) (gs : List Gear) → MisheardStands told g t gs → Calm g (machine_ordered t (Commit x)) gs
-calm_ordered g t x gs st = record { there = st.there; tries = st.tries; way = st.way }
-
-pub calm_of : {told : Bool} (g : ℕ) (t : Machine) (gs : List Gear) → MisheardStands told g t gs → Calm g t gs
-calm_of g t gs st = record { there = st.there; tries = st.tries; way = st.way }
 
 -- ---------------------------------------------------------------- a later frame
 
@@ -141,9 +131,7 @@ pub later_by : (g : ℕ) (t : Machine) (o : Order) (s : Stage) (f : Forward) (gs
     → stage_of t.trace ≡ s → IsUnasked s t.course.purpose → IsNext g (machine_ordered t o) o gs
 later_by g t o s f gs st is at unasked = subst (λ q. IsNext g (machine_ordered t q) q gs) (sym is)
     (subst (λ m. IsNext g m (Put LATER f) gs) (sym (later_leaves t f s at unasked)) (record {
-      there = st.there;
-      tries = st.tries;
-      way = st.way;
+      calm = st.calm;
       trace = st.trace;
       at = untold g t.course.purpose (stage_of t.trace) t.kept t.heard t.course t.silent gs
           (subst (λ q. IsUnasked q t.course.purpose) (sym at) unasked) st.at;
@@ -162,9 +150,7 @@ pub first_by : (g : ℕ) (t : Machine) (o : Order) (cs : Course) (gs : List Gear
     → cs.way ≡ Surveying → At false g cs.purpose stage.Free t.kept t.heard cs t.silent gs → KnownAt g cs.purpose stage.Free t.kept t.heard cs gs
     → IsNext g (machine_ordered t o) o gs
 first_by g t o cs gs calm is same way at known = subst (λ q. IsNext g (machine_ordered t q) q gs) (sym is) (record {
-  there = calm.there;
-  tries = calm.tries;
-  way = subst (λ (d : Course). d.way ≡ Surveying) (sym same) way;
+  calm = record { there = calm.there; untried = calm.untried; way = subst (λ (d : Course). d.way ≡ Surveying) (sym same) way };
   trace = subst (λ s. IsTrace s []) (sym stage_none) trace_none;
   at = subst (λ s. At false g (next_course t).purpose s t.kept t.heard (next_course t) t.silent gs) (sym stage_none)
       (subst (λ (d : Course). At false g d.purpose stage.Free t.kept t.heard d t.silent gs) (sym same) at);
@@ -245,13 +231,7 @@ fills g t o c gs calm is next way counted known filled one holds = go (asks_agai
   go true again =
       asks_or_calls g t o (record c { from = 0; opened = false; ascent = ascent_at_first; tally = asked_again c.tally }) 0 gs calm is
       (next ∙ ap (λ b. if b then asking_again t.kept c else closing_by c BlockFull) again) way refl
-      (record {
-        calls = counted.calls;
-        draws = counted.draws;
-        passed = counted.passed;
-        quiet = counted.quiet;
-        drawn = counted.drawn;
-      }) (omega arith) known.1 (inr (known.0, filled)) one holds
+      counted (omega arith) known.1 (inr (known.0, filled)) one holds
   go false last =
       first_by g t o (closing_by c BlockFull) gs calm is (next ∙ ap (λ b. if b then asking_again t.kept c else closing_by c BlockFull) last) way
       (record { stage_is = tt; well = filled }) known
@@ -320,7 +300,7 @@ hunts_above g t o cs v gs calm is next way opened counted few low sought_are bar
 -- if a visit succeeded
 pub hunts_on : (g : ℕ) (t : Machine) (o : Order) (gs : List Gear) → Calm g t gs → o ≡ beginning (next_course t) → next_course t ≡ goes_on_to t
     → KeepsPast g t.kept t.heard t.course t.silent gs → IsNext g (machine_ordered t o) o gs
-hunts_on g t o gs calm is next v =
+hunts_on g t o gs calm is next (v, known) =
     hunts_above g t o (record t.course { tally = served t.course.tally }) v.visited gs calm is
     (next ∙ ap (λ b. going_on t.kept b t.course) v.opened_is ∙ ap (λ y. searching_on y t.course) calm.way) calm.way v.opened_is
     (record {
@@ -330,7 +310,7 @@ hunts_on g t o gs calm is next v =
       quiet = subst (λ n. n + one_if (not (is_failed None (gear_of gs g).random)) ≤ 2 * 0 + 1 + 20 * t.course.tally.draws + 0) (sym v.quiet)
           (least t.course.tally.draws);
       drawn = v.counted.drawn;
-    }) (λ wanted_is. omega arith) v.low v.sought_are v.bare v.drawn v.past v.known
+    }) (λ wanted_is. omega arith) v.low v.sought_are v.bare v.drawn v.past known
   where
     least : (n : ℕ) → 0 + 1 ≤ 2 * 0 + 1 + 20 * n + 0
     least n = omega arith

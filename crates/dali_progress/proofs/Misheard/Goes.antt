@@ -24,32 +24,26 @@ use Rattle.dali_standing.specs.Seats.{IsFound, LeavesWhole}
 use Rattle.dali_world.specs.Site.{SiteState, world, site_logged, machine_at}
 use Rattle.dali_progress.specs.Misheard.{IsHeardBut, IsOfRoundBut, RoundsBut, EndsWellBut, IsTrueEndBut}
 use Rattle.dali_progress.specs.Rounds.{HasEnded, GoesOn, IsAlone, Succeeds, IsOfRound, Rounds, site_after}
+use Rattle.dali_progress.proofs.Misheard.Gear as gear
 use Rattle.dali_progress.proofs.Along.{RunsBy, runs_first, acted_to, frame_to, sent_to, ended_at, goes_by, HoldsBy, holds_next, acts_from}
 use Rattle.dali_progress.proofs.Both.{never_eight, with_kept, put_no_enrolment, not_free, no_tries, IsKnown, lawful_now, no_enrolment_now, no_enrolment_yet}
-use Rattle.dali_progress.proofs.{Both.reserved_begins, Census.Asked.sending_of, Frames.Seeks, Logged.same_some, Logged.world_logged, Lone.IsLone}
-use Rattle.dali_progress.proofs.{Lone.lone_sent, Misheard.Begins.Calm, Misheard.Begins.IsOwn, Misheard.Begins.Keeps}
-use Rattle.dali_progress.proofs.Misheard.{Begins.IsNext, Begins.first_by, Begins.asks_on, Begins.hunts_on, Known.SentTo, Known.at_sent, Known.known_sent}
-use Rattle.dali_progress.proofs.Misheard.{Sent.Taken, Stands.EndsBy, Stands.AreTabledBelow, Stands.KnownAt, Stands.At, Stands.MisheardStands, Visits.turned}
-use Rattle.dali_progress.proofs.Survey.Goes.{found_sent, acted_so, promise_now, surveyed_now, IsActedSo}
-use Rattle.dali_progress.proofs.Survey.{Kept.rest_next, Queried.OneShort, Queried.IsTrue, Queried.IsAtHand, Turns.IsUncontradicted}
-use Rattle.dali_progress.proofs.Misheard.Gear as gear
+use Rattle.dali_progress.{proofs.Both.reserved_begins, proofs.Census.Asked.sending_of, proofs.Frames.Seeks, proofs.Logged.{same_some, world_logged}}
+use Rattle.dali_progress.{proofs.Lone.{IsLone, lone_sent}, proofs.Misheard.Stands.{Calm, EndsBy, AreTabledBelow, KnownAt, At, MisheardStands}}
+use Rattle.dali_progress.{proofs.Misheard.Begins.{IsOwn, Keeps, IsNext, first_by, asks_on, hunts_on}, proofs.Misheard.Known.{SentTo, at_sent, known_sent}}
+use Rattle.dali_progress.{proofs.Misheard.Sent.Taken, proofs.Misheard.Visits.turned, proofs.Survey.Goes.{found_sent, acted_so, promise_now, surveyed_now}}
+use Rattle.dali_progress.{proofs.Survey.Goes.IsActedSo, proofs.Survey.Kept.rest_next, proofs.Survey.Queried.{OneShort, IsTrue, IsAtHand}}
+use Rattle.dali_progress.{proofs.Survey.Turns.IsUncontradicted}
 
 -- A SURVEY GOES ON, event by event, if gear g is misheard.
 
 -- ---------------------------------------------------------------- a record was kept
 
-calm_kept : (g : ℕ) (m : Machine) (x : Record) (gs : List Gear) → Calm g m gs → Calm g (with_kept m x) gs
-calm_kept g m x gs calm = record { there = calm.there; tries = calm.tries; way = calm.way }
-
-calm_more : (g : ℕ) (m : Machine) (x y : Record) (gs : List Gear) → Calm g m gs → Calm g (machine_ordered (with_kept m x) (Commit y)) gs
-calm_more g m x y gs calm = record { there = calm.there; tries = calm.tries; way = calm.way }
-
 committed : (g : ℕ) (m : Machine) (x : Record) (o : Order) (gs : List Gear) → Calm g m gs → Keeps g m.kept m.heard m.course m.silent x gs → m.trace ≡ []
     → m.last ≡ Some (Commit x) → IsGivenBy (with_kept m x) o → OneShort gs → IsTrue (with_kept m x).kept.enrolled gs
     → IsNext g (machine_ordered (with_kept m x) o) o gs
 committed g m (Reserve a r) o gs calm v free last by one holds =
-    first_by g (with_kept m (Reserve a r)) o (visiting m.course r) gs (calm_kept g m (Reserve a r) gs calm)
-    (reserved_begins m a r o calm.tries free last by) (rest_next m (Reserve a r) free last) calm.way
+    first_by g (with_kept m (Reserve a r)) o (visiting m.course r) gs calm
+    (reserved_begins m a r o calm.untried free last by) (rest_next m (Reserve a r) free last) calm.way
     (record {
       opened_is = v.opened_is;
       counted = v.counted;
@@ -64,28 +58,20 @@ committed g m (Reserve a r) o gs calm v free last by one holds =
       v.clear,
     )
 committed g m (Enrol b r) o gs calm (inr past) free last by one holds =
-    hunts_on g (with_kept m (Enrol b r)) o gs (calm_kept g m (Enrol b r) gs calm)
+    hunts_on g (with_kept m (Enrol b r)) o gs calm
     (given.enrolled (with_kept m (Enrol b r)) o b r by last free past.1) (rest_next m (Enrol b r) free last)
-    (record {
-      opened_is = past.0.opened_is;
-      counted = past.0.counted;
-      low = past.0.low;
-      sought_are = past.0.sought_are;
-      bare = past.0.bare;
-      quiet = past.0.quiet;
-      visited = past.0.visited;
-      drawn = past.0.drawn;
-      past = past.0.past;
-      known = (
+    (
+      past.0.0,
+      (
         gear.known_more m.kept.reserved m.kept.enrolled m.kept.reserved (m.kept.enrolled ++ (b, r) ∷ []) gs (λ x has. has)
-            (λ x has. has_before m.kept.enrolled (b, r) x has) past.0.known.0,
-        past.0.known.1,
-      );
-    })
+            (λ x has. has_before m.kept.enrolled (b, r) x has) past.0.1.0,
+        past.0.1.1,
+      ),
+    )
 committed g m (Enrol b r) o gs calm (inl asked) free last by one holds = go o by (by.followed.enrolled b r last) where
   goes : (q : Order) → IsGivenBy (with_kept m (Enrol b r)) q → IsOwn m.kept b r → IsNext g (machine_ordered (with_kept m (Enrol b r)) q) q gs
   goes q by own =
-      asks_on g (with_kept m (Enrol b r)) q gs (calm_kept g m (Enrol b r) gs calm) (given.enrolled (with_kept m (Enrol b r)) q b r by last free own)
+      asks_on g (with_kept m (Enrol b r)) q gs calm (given.enrolled (with_kept m (Enrol b r)) q b r by last free own)
       (rest_next m (Enrol b r) free last) asked.0 one holds
 
   go : (q : Order) → IsGivenBy (with_kept m (Enrol b r)) q → AfterEnrolled (with_kept m (Enrol b r)) b r q
@@ -96,13 +82,13 @@ committed g m (Enrol b r) o gs calm (inl asked) free last by one holds = go o by
         → IsNext g (machine_ordered (with_kept m (Enrol b r)) (Commit x)) (Commit x) gs
     released (inl first) =
         subst (λ y. IsNext g (machine_ordered (with_kept m (Enrol b r)) (Commit y)) (Commit y) gs) (sym is)
-        (calm_more g m (Enrol b r) (Release a r) gs calm, (asked.0, first))
+        (calm, (asked.0, first))
     released (inr own) = goes (Commit x) by own
   go (Done e) by never = absurd never
   go (Halt why) by never = absurd never
 committed g m (Release a r) o gs calm v free last by one holds =
-    asks_on g (with_kept m (Release a r)) o gs (calm_kept g m (Release a r) gs calm)
-    (given.begins_free (with_kept m (Release a r)) o by free (no_enrolment_now a r m.last last) (never_eight m.tries calm.tries))
+    asks_on g (with_kept m (Release a r)) o gs calm
+    (given.begins_free (with_kept m (Release a r)) o by free (no_enrolment_now a r m.last last) (never_eight m.tries calm.untried))
     (rest_next m (Release a r) free last)
     (record {
       unopened = v.0.unopened;
@@ -141,7 +127,7 @@ Holds g m last told gs = HoldsBy (IsUnbegun g) (λ n p f h gs. Hears g n f h gs)
 first_acts : (g : ℕ) (m : Machine) (o : Order) (gs : List Gear) → m.last ≡ None → IsGivenBy (machine_surveying m) o → OneShort gs
     → IsTrue m.kept.enrolled gs → IsUnbegun g m gs → IsNext g (machine_ordered (machine_surveying m) o) o gs
 first_acts g m o gs last by one holds v =
-    asks_on g (machine_surveying m) o gs (record { there = v.there; tries = v.tries; way = refl })
+    asks_on g (machine_surveying m) o gs (record { there = v.there; untried = v.tries; way = refl })
     (given.begins_free (machine_surveying m) o by v.free (no_enrolment_yet m.last last) (never_eight m.tries v.tries))
     (ap (begins_at (machine_surveying m)) at ∙ ap (at_rest (machine_surveying m)) last)
     (record {
@@ -173,9 +159,11 @@ stands_heard : (g : ℕ) (m : Machine) (f : Forward) (h : Answer) (gs : List Gea
     → KnownTo g m.course.purpose (stage_of m.trace) m.kept m.heard m.course gs numbers (command_of f) h
     → MisheardStands true g (machine_heard m (Some f) h) (row_after Everyone (command_of f) 0 gs numbers)
 stands_heard g m f h gs numbers st lawful sent known = record {
-  there = subst (λ n. g < n) (sym (row_length Everyone (command_of f) 0 gs numbers)) st.there;
-  tries = no_tries _ m.tries st.tries;
-  way = st.way;
+  calm = record {
+    there = subst (λ n. g < n) (sym (row_length Everyone (command_of f) 0 gs numbers)) st.calm.there;
+    untried = no_tries _ m.tries st.calm.untried;
+    way = st.calm.way;
+  };
   trace = subst (λ s. IsTrace s (m.trace ++ entry f h ∷ [])) (sym more) (trace_more (stage_of m.trace) m.trace f h lawful st.trace);
   at = subst (λ s. At true g m.course.purpose s m.kept
       (heard_after m.course.purpose s h m.heard) m.course (silent_after s m.course.opened m.silent)
@@ -259,7 +247,7 @@ misheard_sends g s c p f h r last told here heard known = (
 
   taken : Taken g (command_of f) w.gear w.left h
   taken = record {
-    there = holds.0.there;
+    there = holds.0.calm.there;
     heard = heard;
     enough = here.draws;
     below = λ x has. known.after.below x.0 x.1 (has_right w.drawn (drawn_of Everyone (command_of f) 0 w.gear w.left) x has);

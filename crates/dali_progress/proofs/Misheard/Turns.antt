@@ -19,14 +19,13 @@ use Rattle.dali_controller.proofs.Given.{IsGivenBy, IsNoEnrolment}
 use Rattle.dali_controller.proofs.Given as given
 use Rattle.dali_events.specs.Wanted.{gear_of}
 use Rattle.dali_events.proofs.Search.Wanted as wanted
-use Rattle.dali_progress.proofs.Both.{never_eight, has_address}
-use Rattle.dali_progress.proofs.Misheard.Begins.{KeepsAsked, IsOwn, Keeps, IsNext, calm_of, calm_ordered, first_by, asks_on, one_most, hunts_first}
-use Rattle.dali_progress.proofs.Misheard.Gear.{AreKnown, HasOne}
-use Rattle.dali_progress.proofs.Misheard.Stands.{IsSpent, Asks, Calls, Draws, AreTabledBelow, AreSeen, IsCensus, Census, KnownAt, EndsBy, MisheardStands}
-use Rattle.dali_progress.proofs.Survey.{Begins.begins_whole, Begins.all_taken, Hunting.nothing_open, Queried.Holds, Queried.one_gear, Queried.IsAtHand}
-use Rattle.dali_progress.proofs.Survey.{Stands.AreTaken, Turns.IsUncontradicted, Turns.silent_next, Turns.heard_next}
-use Rattle.dali_progress.proofs.Surveying.{roll_first, called_short, roll_over, IsClear}
 use Rattle.dali_progress.proofs.Misheard.Gear as gear
+use Rattle.dali_progress.{proofs.Both.{never_eight, has_address}, proofs.Misheard.Begins.{KeepsAsked, IsOwn, Keeps, IsNext, first_by, asks_on, one_most}}
+use Rattle.dali_progress.{proofs.Misheard.Begins.hunts_first, proofs.Misheard.Gear.{AreKnown, HasOne}, proofs.Misheard.Stands.{IsSpent, Asks, Calls, Draws}}
+use Rattle.dali_progress.proofs.Misheard.Stands.{AreTabledBelow, AreSeen, IsCensus, Census, KnownAt, EndsBy, MisheardStands}
+use Rattle.dali_progress.{proofs.Survey.Begins.{begins_whole, all_taken}, proofs.Survey.Hunting.nothing_open, proofs.Survey.Queried.{Holds, one_gear, IsAtHand}}
+use Rattle.dali_progress.{proofs.Survey.Stands.AreTaken, proofs.Survey.Turns.{IsUncontradicted, silent_next, heard_next}, proofs.Surveying.roll_first}
+use Rattle.dali_progress.proofs.Surveying.{called_short, roll_over, IsClear}
 
 -- A CONTROLLER ACTS on what it was told, and what it orders goes on with the survey.
 
@@ -114,7 +113,7 @@ told_turns g t o a b n gs by st hand agreed purpose is v w = go (nat_lt n MASK24
   goes : (q : Order) → q ≡ beginning (next_course t)
       → ((i : ℕ) → Holds gs i a → (gear_of gs i).random < MASK24 → Has t.kept.enrolled (a, (gear_of gs i).random)) → IsNext g (machine_ordered t q) q gs
   goes q begins here =
-      asks_on g t q gs (calm_of g t gs st) begins (ap (begins_at t) is)
+      asks_on g t q gs st.calm begins (ap (begins_at t) is)
       (next_asks g a (stage.Spelled b (Some n)) t.kept t.heard t.course t.silent gs v w w.ask.clear here) hand.one hand.holds
 
   sought_is : n < MASK24 → IsSought t.course.purpose t.course.number n
@@ -155,7 +154,7 @@ told_turns g t o a b n gs by st hand agreed purpose is v w = go (nat_lt n MASK24
       (λ i told drew. subst (λ m. Has t.kept.enrolled (a, m)) (sym (same i told)) (subst (λ c. Has t.kept.enrolled (c, n)) w.ask.asked.0 has))
   follows (Commit x) by small is_enrol =
       let may : IsFresh t.kept.enrolled (b, n) = subst (λ y. MayAdd t.kept y) is_enrol by.ordered.allowed.may in
-      subst (λ y. IsNext g (machine_ordered t (Commit y)) (Commit y) gs) (sym is_enrol) (calm_ordered g t (Enrol b n) gs st, enrols small may)
+      subst (λ y. IsNext g (machine_ordered t (Commit y)) (Commit y) gs) (sym is_enrol) (st.calm, enrols small may)
   follows (Done e) by small never = absurd never
   follows (Halt why) by small contradicts = absurd (agreed (Resolved b n) (found_at g t gs (stage.Spelled b (Some n)) st is) contradicts)
 
@@ -178,18 +177,18 @@ census_turns g t o a (stage.HighAsked b None) gs by st hand agreed last purpose 
   begins : o ≡ beginning (next_course t)
   begins =
       begins_whole t o (Asking a) (stage.HighAsked b None) by purpose is (λ r e. cc) (λ e. cc) tt (λ f sends. (let none = sends.0 in cc))
-      (found_at g t gs (stage.HighAsked b None) st is) last st.tries whole
+      (found_at g t gs (stage.HighAsked b None) st is) last st.calm.untried whole
 
   next : next_course t ≡ asked_once t (t.asked == 0)
   next = ap (begins_at t) is
 
   go : (e : Bool) → (t.asked == 0) ≡ e → IsNext g (machine_ordered t o) o gs
   go true none =
-      asks_on g t o gs (calm_of g t gs st) begins (next ∙ ap (asked_once t) none)
+      asks_on g t o gs st.calm begins (next ∙ ap (asked_once t) none)
       (next_asks g a (stage.HighAsked b None) t.kept t.heard t.course t.silent gs v w w.ask.clear (λ i has drew. absurd (w.ask.asked.1 i has)))
       hand.one hand.holds
   go false again =
-      first_by g t o t.course gs (calm_of g t gs st) begins (next ∙ ap (asked_once t) again) st.way
+      first_by g t o t.course gs st.calm begins (next ∙ ap (asked_once t) again) st.calm.way
       (rw purpose (record { unopened = v.unopened; counted = v.counted }))
       (rw purpose (record { ask = record { small = w.ask.small; asked = tt; clear = w.ask.clear }; from_is = w.from_is; census = w.census }))
 census_turns g t o a (stage.HighAsked b (Some u)) gs by st hand agreed last purpose is running v w whole over = absurd (cc)
@@ -229,11 +228,11 @@ blocked_turns g t o r h room gs st v known begins next is_blocked_now = go (nat_
 
   closes : may_draw t ≡ false → EndsBy g GaveUp t.kept t.heard gs → IsNext g (machine_ordered t o) o gs
   closes none well =
-      first_by g t o (closing_by t.course GaveUp) gs (calm_of g t gs st) begins (by false none) st.way (record { stage_is = tt; well = well }) known.0
+      first_by g t o (closing_by t.course GaveUp) gs st.calm begins (by false none) st.calm.way (record { stage_is = tt; well = well }) known.0
 
   go : (a : Bool) → nat_lt t.course.tally.draws 3 ≡ a → (b : Bool) → has_open t ≡ b → IsNext g (machine_ordered t o) o gs
   go true few true free =
-      first_by g t o (opening_at_last t.course) gs (calm_of g t gs st) begins (by true (rw (few, free) refl)) st.way
+      first_by g t o (opening_at_last t.course) gs st.calm begins (by true (rw (few, free) refl)) st.calm.way
       (record {
         opened_is = v.opened_is;
         counted = record {
@@ -274,21 +273,15 @@ answered_call g t o r h room gs by st purpose is v over = go (is_yes h) refl whe
 
   silent_one : is_yes h ≡ false → (b : Bool) → t.course.tally.is_silent ≡ b → IsNext g (machine_ordered t o) o gs
   silent_one quiet_so true twice =
-      first_by g t o (closing_by t.course AllFound) gs (calm_of g t gs st) begins
-      (silent_next t r h room true is purpose quiet_so twice) st.way
+      first_by g t o (closing_by t.course AllFound) gs st.calm begins
+      (silent_next t r h room true is purpose quiet_so twice) st.calm.way
       (record { stage_is = tt; well = called_short h room gs v.roll.stage_is.1 quiet_so }) known.0
   silent_one quiet_so false once =
-      first_by g t o (calling (record t.course { tally = silent_call t.course.tally })) gs (calm_of g t gs st) begins
-      (silent_next t r h room false is purpose quiet_so once) st.way
+      first_by g t o (calling (record t.course { tally = silent_call t.course.tally })) gs st.calm begins
+      (silent_next t r h room false is purpose quiet_so once) st.calm.way
       (record {
         opened_is = v.opened_is;
-        counted = record {
-          calls = v.counted.calls;
-          draws = v.counted.draws;
-          passed = v.counted.passed;
-          quiet = v.counted.quiet;
-          drawn = v.counted.drawn;
-        };
+        counted = v.counted;
         roll = roll_first gs;
       }) known
 
@@ -298,8 +291,8 @@ answered_call g t o r h room gs by st purpose is v over = go (is_yes h) refl whe
       (heard_next t r h room true is purpose heard_so stuck) stuck
   heard_one heard_so false free =
       let few = heard_few t.course.tally v.counted.calls v.counted.passed free in
-      hunts_first g t o (record t.course { tally = heard_call t.course.tally }) gs (calm_of g t gs st) begins
-      (heard_next t r h room false is purpose heard_so free) st.way v.opened_is
+      hunts_first g t o (record t.course { tally = heard_call t.course.tally }) gs st.calm begins
+      (heard_next t r h room false is purpose heard_so free) st.calm.way v.opened_is
       (record {
         calls = few.0;
         draws = v.counted.draws;
@@ -328,9 +321,9 @@ pub drawn_turns : (g : ℕ) (t : Machine) (o : Order) (p : Purpose) (gs : List G
     → stage_of t.trace ≡ stage.Opened → Draws p stage.Opened t.course t.silent gs → AreSeen t.kept t.heard gs
     → IsNext g (machine_ordered t o) o gs
 drawn_turns g t o p gs by st last is v known =
-    hunts_first g t o t.course gs (calm_of g t gs st)
-    (given.begins_after t o stage.Opened by is tt (found_at g t gs stage.Opened st is) last (never_eight t.tries st.tries))
-    (ap (begins_at t) is ∙ ap (λ y. searching_first y t.course) st.way) st.way v.opened_is
+    hunts_first g t o t.course gs st.calm
+    (given.begins_after t o stage.Opened by is tt (found_at g t gs stage.Opened st is) last (never_eight t.tries st.calm.untried))
+    (ap (begins_at t) is ∙ ap (λ y. searching_first y t.course) st.calm.way) st.calm.way v.opened_is
     (record {
       calls = v.counted.calls;
       draws = v.counted.draws;

@@ -7,7 +7,7 @@ use Rattle.dali_gear.specs.{Gear.Gear, declared.state.InitialisationState.TheVar
 use Rattle.dali_script.specs.{Records.Has, Records.HasRandom, Records.IsFresh, Records.MayAdd, Stages.stage_of, declared.finding.Finding.TheVariants.Queried}
 use Rattle.dali_script.specs.declared.orders.{End.TheVariants.BlockFull, End.TheVariants.GaveUp, Order.Order}
 use Rattle.dali_script.specs.declared.orders.Order.TheVariants.{Put, Commit, Done, Halt}
-use Rattle.dali_script.specs.declared.{records.Record.TheVariants.Reserve, records.Record.TheVariants.Enrol, stage.Stage.Stage}
+use Rattle.dali_script.specs.declared.stage.Stage.{Stage}
 use Rattle.dali_script.specs.declared.stage.Stage.TheVariants as stage
 use Rattle.dali_search.specs.Ascending.{Ascent, Knows, IsAscent, ascent_at_first, asked_next, leads_to, ascended, one_if}
 use Rattle.dali_search.specs.{Least.Gives, declared.step.Step.Step}
@@ -24,18 +24,17 @@ use Rattle.dali_controller.{specs.declared.tally.Tally.Tally, proofs.Given.IsGiv
 use Rattle.dali_controller.proofs.Given as given
 use Rattle.dali_events.specs.{Searching.HasShort, Wanted.gear_of, Wanted.is_wanted, Wanted.wants}
 use Rattle.dali_events.proofs.Search.Wanted as wanted
-use Rattle.dali_progress.{specs.Misheard.AreServedBut, proofs.Accounted.open_is, proofs.Both.never_eight, proofs.Both.close_ends, proofs.Frames.value_sought}
-use Rattle.dali_progress.proofs.Misheard.Begins.{KeepsPast, IsOwn, IsNext, Calm, calm_of, calm_ordered, later_by, turns_by, first_by, fills, hunts_above}
-use Rattle.dali_progress.proofs.Misheard.{Begins.hunts_on, Gear.AreSought, Gear.AreBare, Gear.HaveDrawn, Gear.HasOne}
-use Rattle.dali_progress.proofs.Misheard.Stands.{AreSeen, IsCounted, Rises, IsReached, IsOfOne, Visits, Hunts, At, Draws, MisheardStands, IsCountedFor}
-use Rattle.dali_progress.proofs.Misheard.Turns.{found_at, known_as, own_by, census_turns, calling_turns, drawn_turns}
-use Rattle.dali_progress.proofs.Survey.{Begins.clear_reserved, Begins.nobody_elses, Begins.begins_whole, Begins.all_taken, Drawn.AreNumbered, Drawn.DrewApart}
-use Rattle.dali_progress.proofs.Survey.Hunting.{found_same, begins_by, nothing_open, later_asked, vain_next, asked_where, hunted_next}
-use Rattle.dali_progress.proofs.Survey.{Queried.IsAtHand, Rising.knows_told, Stands.AreTaken, Turns.IsUncontradicted, Visits.found_address}
-use Rattle.dali_progress.proofs.Survey.{Visits.withheld_anothers, Visits.ungiven_next, Woken.AreLow}
-use Rattle.dali_progress.proofs.Surveying.{NoneDrawn, roll_first, IsDraws, draw_over}
 use Rattle.dali_progress.proofs.Misheard.Climbing as climbing
 use Rattle.dali_progress.proofs.Misheard.Stands as stands
+use Rattle.dali_progress.{specs.Misheard.AreServedBut, proofs.Accounted.open_is, proofs.Both.{never_eight, close_ends}, proofs.Frames.value_sought}
+use Rattle.dali_progress.proofs.Misheard.Begins.{KeepsPast, IsOwn, IsNext, later_by, turns_by, first_by, fills, hunts_above, hunts_on}
+use Rattle.dali_progress.proofs.Misheard.Stands.{Calm, AreSeen, IsCounted, Rises, IsReached, IsOfOne, Visits, Hunts, At, Draws, MisheardStands, IsCountedFor}
+use Rattle.dali_progress.{proofs.Misheard.Gear.{AreSought, AreBare, HaveDrawn, HasOne}, proofs.Misheard.Turns.{found_at, known_as, own_by, census_turns}}
+use Rattle.dali_progress.{proofs.Misheard.Turns.{calling_turns, drawn_turns}, proofs.Survey.Begins.{clear_reserved, nobody_elses, begins_whole, all_taken}}
+use Rattle.dali_progress.{proofs.Survey.Drawn.{AreNumbered, DrewApart}, proofs.Survey.Hunting.{found_same, begins_by, nothing_open, later_asked, vain_next}}
+use Rattle.dali_progress.{proofs.Survey.Hunting.{asked_where, hunted_next}, proofs.Survey.Queried.IsAtHand, proofs.Survey.Rising.knows_told}
+use Rattle.dali_progress.{proofs.Survey.Stands.AreTaken, proofs.Survey.Turns.IsUncontradicted, proofs.Survey.Visits.{found_address, withheld_anothers}}
+use Rattle.dali_progress.{proofs.Survey.Visits.ungiven_next, proofs.Survey.Woken.AreLow, proofs.Surveying.{NoneDrawn, roll_first, IsDraws, draw_over}}
 
 -- A CONTROLLER ACTS while gear are hunted and visited, and at its close; and in whatever transaction.
 
@@ -110,13 +109,13 @@ vain_over : (g : ℕ) (t : Machine) (o : Order) (h : Answer) (r : SearchAddress)
     → next_course t ≡ undrawn t (hunted t.course h) → t.course.ascent.found ≡ 0 → IsOver g t gs → IsNext g (machine_ordered t o) o gs
 vain_over g t o h r room gs asks next none v = go (has_open t) refl (nat_lt t.course.tally.draws 3) refl where
   calm : Calm g t gs
-  calm = calm_of g t gs v.stands
+  calm = v.stands.calm
 
   go : (a : Bool) → has_open t ≡ a → (b : Bool) → nat_lt t.course.tally.draws 3 ≡ b → IsNext g (machine_ordered t o) o gs
   go true free true few =
       first_by g t o (drawing (hunted t.course h)) gs calm
       (begins_by t o (drawing (hunted t.course h)) r room asks (vain_next t h true true next free few) refl)
-      (vain_next t h true true next free few) v.stands.way
+      (vain_next t h true true next free few) v.stands.calm.way
       (record {
         opened_is = v.opened_is;
         counted = counted_draw g t.course.tally t.silent gs v.counted few;
@@ -130,14 +129,14 @@ vain_over g t o h r room gs asks next none v = go (has_open t) refl (nat_lt t.co
   go true free false spent =
       first_by g t o (closing_by (hunted t.course h) GaveUp) gs calm
       (begins_by t o (closing_by (hunted t.course h) GaveUp) r room asks (vain_next t h true false next free spent) refl)
-      (vain_next t h true false next free spent) v.stands.way
+      (vain_next t h true false next free spent) v.stands.calm.way
       (record { stage_is = tt; well = inl (served_by g t.course.ascent.found gs v.sought_are (v.counted.drawn (some t.course.tally.draws spent)) v.nobody) })
       v.known
     where
       some : (n : ℕ) → nat_lt n 3 ≡ false → 0 < n
       some n e = grind (arith, nat_tests, e)
   go false shut b few =
-      fills g t o (hunted t.course h) gs calm (begins_full (vain_next t h false b next shut few)) (vain_next t h false b next shut few) v.stands.way v.counted
+      fills g t o (hunted t.course h) gs calm (begins_full (vain_next t h false b next shut few)) (vain_next t h false b next shut few) v.stands.calm.way v.counted
       v.known (all_taken t.kept t.heard (nothing_open t shut)) v.hand.one v.hand.holds
     where
       begins_full : next_course t ≡ full t (hunted t.course h) → o ≡ beginning (next_course t)
@@ -147,8 +146,8 @@ vain_over g t o h r room gs asks next none v = go (has_open t) refl (nat_lt t.co
 found_over : (g : ℕ) (t : Machine) (o : Order) (h : Answer) (r : SearchAddress) (room : ℕ) (gs : List Gear) → o ≡ question (next_course t) r room
     → next_course t ≡ calling (hunted t.course h) → IsOver g t gs → IsNext g (machine_ordered t o) o gs
 found_over g t o h r room gs asks next v =
-    first_by g t o (calling (hunted t.course h)) gs (calm_of g t gs v.stands) (begins_by t o (calling (hunted t.course h)) r room asks next refl) next
-    v.stands.way
+    first_by g t o (calling (hunted t.course h)) gs v.stands.calm (begins_by t o (calling (hunted t.course h)) r room asks next refl) next
+    v.stands.calm.way
     (record {
       opened_is = v.opened_is;
       counted = v.counted;
@@ -178,9 +177,7 @@ goes_on : (g : ℕ) (t : Machine) (o : Order) (h : Answer) (r : SearchAddress) (
     → AreSeen t.kept t.heard gs → IsNext g (machine_ordered t o) o gs
 goes_on g t o h r room gs st purpose is next sends v known = subst (λ q. IsNext g (machine_ordered t q) q gs) (sym sends)
     (subst (λ m. IsNext g m (Put LATER (frame_of c)) gs) (sym (later_asked t h r room (frame_of c) purpose is next)) (record {
-      there = st.there;
-      tries = st.tries;
-      way = st.way;
+      calm = st.calm;
       trace = st.trace;
       at = subst (λ s. Hunts false g Hunting s (hunting (hunted t.course h)) t.silent gs) (sym is) v;
       known = known;
@@ -234,8 +231,8 @@ answered_turns g t o r h room gs by st hand purpose is v = go (leads_to (ascende
         at = record { is = ascent; knows = knows; running = e; number = refl; bare = p.bare; stage_is = tt };
       }) known
   again false none e =
-      first_by g t o (hunting (hunted t.course h)) gs (calm_of g t gs st)
-      (asked_where t o h r room false asks (next Again e) none) (next Again e) st.way
+      first_by g t o (hunting (hunted t.course h)) gs st.calm
+      (asked_where t o h r room false asks (next Again e) none) (next Again e) st.calm.way
       (record {
         opened_is = v.opened_is;
         counted = v.counted;
@@ -250,8 +247,8 @@ answered_turns g t o r h room gs by st hand purpose is v = go (leads_to (ascende
   go Again e = again (nat_lt (bytes_to_send (hunting (hunted t.course h)).number r) room) refl e
   go (Found m) e =
       let there = climbing.found_is (wants gs) (ascended t.course.ascent (is_yes h)) m knows e in
-      first_by g t o (visiting (hunted t.course h) m) gs (calm_of g t gs st)
-      (begins_by t o (visiting (hunted t.course h) m) r room asks (next (Found m) e) refl) (next (Found m) e) st.way
+      first_by g t o (visiting (hunted t.course h) m) gs st.calm
+      (begins_by t o (visiting (hunted t.course h) m) r room asks (next (Found m) e) refl) (next (Found m) e) st.calm.way
       (record {
         opened_is = v.opened_is;
         counted = v.counted;
@@ -324,13 +321,13 @@ failed_turns g t o s gs st apart v failed found w at known begins next = go (is_
   own = value ∙ sym at.2
 
   few : t.course.tally.passed.count ≤ t.course.tally.calls + t.course.tally.draws
-  few = v.few (one_wanted g w.visited gs apart st.there w.drawn at.0.there at.2)
+  few = v.few (one_wanted g w.visited gs apart st.calm.there w.drawn at.0.there at.2)
 
   sought_are : AreSought g t.course.ascent.found gs
   sought_are = subst (λ n. AreSought g n gs) found v.sought_are
 
   loud : (t.silent == most_silent t.course.way) ≡ false
-  loud = ap (λ q. t.silent == most_silent q) st.way ∙ other t.silent (one_if (not (is_failed t.course.tally.failed (gear_of gs g).random)))
+  loud = ap (λ q. t.silent == most_silent q) st.calm.way ∙ other t.silent (one_if (not (is_failed t.course.tally.failed (gear_of gs g).random)))
       t.course.tally.passed.count t.course.tally.calls t.course.tally.draws counted.quiet few counted.calls counted.draws where
         apart_from : (n : ℕ) → n < 80 → (n == 80) ≡ false
         apart_from n less = grind (arith, nat_tests, less)
@@ -342,7 +339,7 @@ failed_turns g t o s gs st apart v failed found w at known begins next = go (is_
 
   by : (b : Bool) → is_failed t.course.tally.failed (value_of t.course.number) ≡ b → next_course t ≡ missed_again b t.course
   by b e =
-      next ∙ ap (λ q. if q then closing_by t.course GaveUp else silenced_on t t.course.way) loud ∙ ap (silenced_on t) st.way
+      next ∙ ap (λ q. if q then closing_by t.course GaveUp else silenced_on t t.course.way) loud ∙ ap (silenced_on t) st.calm.way
       ∙ ap (λ q. missed_again q t.course) e
 
   -- what was counted of gear g before
@@ -354,7 +351,7 @@ failed_turns g t o s gs st apart v failed found w at known begins next = go (is_
 
   go : (b : Bool) → is_failed t.course.tally.failed (value_of t.course.number) ≡ b → IsNext g (machine_ordered t o) o gs
   go true twice =
-      first_by g t o (passing_over t.course) gs (calm_of g t gs st) begins (by true twice) st.way
+      first_by g t o (passing_over t.course) gs st.calm begins (by true twice) st.calm.way
       (record {
         opened_is = v.opened_is;
         counted = record {
@@ -385,7 +382,7 @@ failed_turns g t o s gs st apart v failed found w at known begins next = go (is_
       enough : (silent count draws : ℕ) → silent + 0 ≤ 2 * count + 1 + 20 * draws + 1 → silent + 1 ≤ 2 * (count + 1) + 1 + 20 * draws + 0
       enough silent count draws quiet = omega (arith, quiet)
   go false once =
-      first_by g t o (missed t.course) gs (calm_of g t gs st) begins (by false once) st.way
+      first_by g t o (missed t.course) gs st.calm begins (by false once) st.calm.way
       (record {
         opened_is = v.opened_is;
         counted = record {
@@ -423,13 +420,13 @@ ungiven_turns : (g : ℕ) (t : Machine) (o : Order) (r : SearchAddress) (gs : Li
 ungiven_turns g t o r gs st v is begins filled known hand = go (may_draw t) refl where
   go : (b : Bool) → may_draw t ≡ b → IsNext g (machine_ordered t o) o gs
   go true may =
-      first_by g t o (opening_anew t.course) gs (calm_of g t gs st) begins (ungiven_next t r true is st.way may) st.way
+      first_by g t o (opening_anew t.course) gs st.calm begins (ungiven_next t r true is st.calm.way may) st.calm.way
       (record {
         opened_is = v.opened_is;
         counted = counted_draw g t.course.tally t.silent gs v.counted (wanted.both_pass (nat_lt t.course.tally.draws 3) (has_open t) may).0;
         draw = record { stage_is = tt; drawn = tt; gear = λ k in_row on. tt; low = v.low };
       }) known
-  go false may = fills g t o t.course gs (calm_of g t gs st) begins (ungiven_next t r false is st.way may) st.way v.counted known filled hand.one hand.holds
+  go false may = fills g t o t.course gs st.calm begins (ungiven_next t r false is st.calm.way may) st.calm.way v.counted known filled hand.one hand.holds
 
 -- an address that is open is not marked
 unnamed_turns : (g : ℕ) (t : Machine) (o : Order) (r : SearchAddress) (gs : List Gear) → IsGivenBy t o → MisheardStands true g t gs
@@ -437,7 +434,7 @@ unnamed_turns : (g : ℕ) (t : Machine) (o : Order) (r : SearchAddress) (gs : Li
     → Hunts true g Visiting (stage.Unnamed r) t.course t.silent gs → IsNext g (machine_ordered t o) o gs
 unnamed_turns g t o r gs by st hand purpose is v =
     go (address_for t.kept.reserved (value_of r)) (found_address t.kept.reserved (value_of r)) (least_open t.kept t.heard) refl
-    (subst (λ y. AfterMaskOn y t (course_by t o) r o) st.way (by.ordered.unnamed r is)) where
+    (subst (λ y. AfterMaskOn y t (course_by t o) r o) st.calm.way (by.ordered.unnamed r is)) where
       known : AreSeen t.kept t.heard gs
       known = known_as g t gs Visiting st purpose
 
@@ -457,7 +454,7 @@ unnamed_turns g t o r gs by st hand purpose is v =
             absurd (let never : true ≡ false = sym (withheld_anothers t t.course.way a (value_of r) withheld)
             ∙ nobody_elses t.kept t.heard gs hand.holds hand.owned known.1 a (value_of r) has in cc)
       go None none (Some a) least mask = subst (λ q. IsNext g (machine_ordered t q) q gs) (sym mask) (
-        calm_ordered g t (Reserve a (value_of r)) gs st,
+        st.calm,
         record {
           opened_is = v.opened_is;
           counted = v.counted;
@@ -484,18 +481,20 @@ withdrawn_turns g t o r a gs by st hand agreed purpose is v = go o by (by.ordere
   w = v.at
 
   keeps : KeepsPast g t.kept t.heard t.course t.silent gs
-  keeps = record {
-    opened_is = v.opened_is;
-    counted = v.counted;
-    low = v.low;
-    sought_are = v.sought_are;
-    bare = w.stage_is.1;
-    quiet = v.quiet;
-    visited = w.visited;
-    drawn = w.drawn;
-    past = w.stage_is.0;
-    known = known_as g t gs Visiting st purpose;
-  }
+  keeps = (
+    record {
+      opened_is = v.opened_is;
+      counted = v.counted;
+      low = v.low;
+      sought_are = v.sought_are;
+      bare = w.stage_is.1;
+      quiet = v.quiet;
+      visited = w.visited;
+      drawn = w.drawn;
+      past = w.stage_is.0;
+    },
+    known_as g t gs Visiting st purpose,
+  )
 
   value : w.visited ≡ value_of r
   value = sym w.stage_is.3
@@ -507,10 +506,10 @@ withdrawn_turns g t o r a gs by st hand agreed purpose is v = go o by (by.ordere
 
   go : (q : Order) → IsGivenBy t q → AfterFinding t a (value_of r) q → IsNext g (machine_ordered t q) q gs
   go (Put p f) by has =
-      hunts_on g t (Put p f) gs (calm_of g t gs st) (given.withdrawn_known t (Put p f) r a by is hand.kept.enrolled has) (ap (begins_at t) is) keeps
+      hunts_on g t (Put p f) gs st.calm (given.withdrawn_known t (Put p f) r a by is hand.kept.enrolled has) (ap (begins_at t) is) keeps
   go (Commit x) by has =
       let may : IsFresh t.kept.enrolled (a, value_of r) = subst (λ y. MayAdd t.kept y) has by.ordered.allowed.may in
-      subst (λ y. IsNext g (machine_ordered t (Commit y)) (Commit y) gs) (sym has) (calm_ordered g t (Enrol a (value_of r)) gs st, inr (keeps, own may))
+      subst (λ y. IsNext g (machine_ordered t (Commit y)) (Commit y) gs) (sym has) (st.calm, inr (keeps, own may))
   go (Done e) by has = absurd has
   go (Halt why) by has = absurd (agreed (Queried a (value_of r)) (found_at g t gs (stage.Withdrawn r a) st is) has)
 
@@ -528,7 +527,7 @@ visiting_turns g t o (stage.Confirmed r a) gs by st hand agreed last purpose is 
 visiting_turns g t o (stage.Withdrawn r a) gs by st hand agreed last purpose is running v over = withdrawn_turns g t o r a gs by st hand agreed purpose is v
 visiting_turns g t o (stage.Unanswered r) gs by st hand agreed last purpose is running v over =
     failed_turns g t o (stage.Unanswered r) gs st hand.apart v refl refl v.at v.at.stage_is (known_as g t gs Visiting st purpose)
-    (given.begins_after t o (stage.Unanswered r) by is tt (found_at g t gs (stage.Unanswered r) st is) last (never_eight t.tries st.tries))
+    (given.begins_after t o (stage.Unanswered r) by is tt (found_at g t gs (stage.Unanswered r) st is) last (never_eight t.tries st.calm.untried))
     (ap (begins_at t) is ∙ ap (λ b. unanswered t r b (address_for t.kept.reserved (value_of r))) v.opened_is)
 visiting_turns g t o (stage.Inconclusive r other) gs by st hand agreed last purpose is running v over =
     failed_turns g t o (stage.Inconclusive r other) gs st hand.apart v refl refl v.at v.at.stage_is (known_as g t gs Visiting st purpose)
@@ -545,10 +544,10 @@ passing_turns g t o (stage.HighSent high) gs by st last purpose is running v who
 passing_turns g t o (stage.MiddleSent high middle) gs by st last purpose is running v whole over = absurd (cc)
 passing_turns g t o (stage.NumberSent r) gs by st last purpose is running v whole over = absurd (cc)
 passing_turns g t o (stage.PassedOver r) gs by st last purpose is running v whole over =
-    hunts_above g t o t.course w.visited gs (calm_of g t gs st)
+    hunts_above g t o t.course w.visited gs st.calm
     (begins_whole t o PassingOver (stage.PassedOver r) by purpose is (λ q e. cc) (λ e. cc) tt (λ f sends. (let none = sends.0 in cc))
-    (found_at g t gs (stage.PassedOver r) st is) last st.tries whole)
-    (ap (begins_at t) is) st.way v.opened_is v.counted (λ wanted_is. absurd (unwanted wanted_is)) v.low v.sought_are w.stage_is.1 w.drawn w.stage_is.0
+    (found_at g t gs (stage.PassedOver r) st is) last st.calm.untried whole)
+    (ap (begins_at t) is) st.calm.way v.opened_is v.counted (λ wanted_is. absurd (unwanted wanted_is)) v.low v.sought_are w.stage_is.1 w.drawn w.stage_is.0
     (known_as g t gs PassingOver st purpose)
   where
     w : Visits g PassingOver (stage.PassedOver r) t.course.ascent t.course.number gs
@@ -556,7 +555,7 @@ passing_turns g t o (stage.PassedOver r) gs by st last purpose is running v whol
 
     unwanted : is_wanted (gear_of gs g) ≡ true → ⊥
     unwanted wanted_is =
-        let more : w.visited < w.visited = w.stage_is.0.past w.visited (wanted.wants_by gs w.visited g st.there wanted_is w.stage_is.2) in
+        let more : w.visited < w.visited = w.stage_is.0.past w.visited (wanted.wants_by gs w.visited g st.calm.there wanted_is w.stage_is.2) in
         omega (arith, more)
 passing_turns g t o _ gs by st last purpose is running v whole over = absurd v.at.stage_is
 
@@ -584,7 +583,7 @@ turned g t o gs by st hand agreed whole last running = turn (turn_of t.course.pu
   go PassingOver purpose at over = passing_turns g t o (stage_of t.trace) gs by st last purpose refl running at whole over
   go (Closing e) purpose at over =
       subst (λ q. IsNext g (machine_ordered t q) q gs)
-      (sym (close_ends t o e (stage_of t.trace) by purpose refl running at.stage_is st.trace.finding st.tries)) at.well
+      (sym (close_ends t o e (stage_of t.trace) by purpose refl running at.stage_is st.trace.finding st.calm.untried)) at.well
   go Probing purpose at over = absurd at
   go (Resolving a) purpose at over = absurd at
 

@@ -165,11 +165,7 @@ first_acts start m o gs left told last g one holds v =
     let at : stage_of m.trace ≡ stage.Free = ap stage_of v.free ∙ stage_none in
     let begins : o ≡ beginning (next_course (machine_surveying m)) =
     given.begins_free (machine_surveying m) o g v.free (no_enrolment_yet m.last last) (never_eight m.tries v.tries) in (
-      asks_on start (machine_surveying m) o 0 gs left (record {
-        tries = v.tries;
-        silent = v.silent;
-        smooth = record { way = refl; passed = refl; unmissed = refl };
-      }) begins
+      asks_on start (machine_surveying m) o 0 gs left (record { untried = v.tries; loud = v.silent; smooth = record { way = refl; passed = refl; unmissed = refl } }) begins
           (ap (begins_at (machine_surveying m)) at ∙ ap (at_rest (machine_surveying m)) last)
           (record { unopened = v.unopened; undrawn = refl; loud = refl }) v.unasked v.first (omega arith)
           (λ e. subst IsSettled (sym v.kept) e) (λ c q has. v.unmarked c) one holds v.same (below_none start.gear m.kept.enrolled gs)
@@ -269,10 +265,12 @@ stands_heard : (start : Begun) (m : Machine) (f : Forward) (h : Answer) (gs : Li
     → (sent : SurveySent m.course.purpose (stage_of m.trace) m.kept m.heard m.asked m.course start gs numbers left (command_of f) h)
     → SurveyStands true start (machine_heard m (Some f) h) (row_after Everyone (command_of f) 0 gs numbers) sent.0
 stands_heard start m f h gs numbers left st lawful sent = record {
-  tries = no_tries _ m.tries st.tries;
-  silent = rw (more, st.silent) (never_silent true m.course.purpose (next_stage (stage_of m.trace) (command_of f) h) m.kept _ _ m.course m.course.opened
-      start (row_after Everyone (command_of f) 0 gs numbers) sent.0 sent.2);
-  smooth = st.smooth;
+  calm = record {
+    untried = no_tries _ m.tries st.calm.untried;
+    loud = rw (more, st.calm.loud) (never_silent true m.course.purpose (next_stage (stage_of m.trace) (command_of f) h) m.kept _ _ m.course m.course.opened
+        start (row_after Everyone (command_of f) 0 gs numbers) sent.0 sent.2);
+    smooth = st.calm.smooth;
+  };
   trace = subst (λ s. IsTrace s (m.trace ++ entry f h ∷ [])) (sym more) (trace_more (stage_of m.trace) m.trace f h lawful st.trace);
   at = subst (λ s. SurveyAt true m.course.purpose s m.kept (heard_after m.course.purpose s h m.heard) (asked_after m.course.purpose s h m.asked) m.course start
       (row_after Everyone (command_of f) 0 gs numbers) sent.0) (sym more) sent.2;

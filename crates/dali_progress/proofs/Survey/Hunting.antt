@@ -23,14 +23,14 @@ use Rattle.dali_events.specs.{Searching.HasShort, Wanted.IsOpened, Wanted.NoneNa
 use Rattle.dali_events.proofs.Search.Opened as opening
 use Rattle.dali_events.proofs.Search.Wanted as wanted
 use Rattle.dali_progress.specs.{Ends.AreTabled, Rounds.IsSettled}
-use Rattle.dali_progress.proofs.{Both.never_eight, Both.visits_first, Frames.value_sought, Stands.search_frames}
-use Rattle.dali_progress.proofs.Survey.Begins.{Calm, IsNext, IsHunted, calm_of, smooth_as, first_by, hunts_by, hunts_first, hunted_some, called_roll, all_taken}
-use Rattle.dali_progress.proofs.Survey.Drawn.{those_drawn, is_undrawn, is_lost, bare_split, drawn_tabled, tabled_drawn, kept_at, drawn_length, undrawn_random}
-use Rattle.dali_progress.proofs.Survey.Queried.{unseen}
+use Rattle.dali_progress.{proofs.Both.{never_eight, visits_first}, proofs.Frames.value_sought, proofs.Stands.search_frames, proofs.Survey.Stands.Calm}
+use Rattle.dali_progress.proofs.Survey.Stands.{IsHunted, Begun, IsCalledFor, Draws, called_after, hunted_after, roll_frames, frames_after, Rises, Hunts}
+use Rattle.dali_progress.{proofs.Survey.Stands.{IsSmooth, SurveyStands}, proofs.Survey.Begins.{IsNext, first_by, hunts_by, hunts_first, hunted_some}}
+use Rattle.dali_progress.{proofs.Survey.Begins.{called_roll, all_taken}, proofs.Survey.Drawn.{those_drawn, is_undrawn, is_lost, bare_split, drawn_tabled}}
+use Rattle.dali_progress.{proofs.Survey.Drawn.{tabled_drawn, kept_at, drawn_length, undrawn_random}, proofs.Survey.Queried.unseen}
 use Rattle.dali_progress.proofs.Survey.Rising.{bytes_same, Answered, answered_rise, rises_new, rises_in, IsReachedAt, rise_found, rise_nobody}
-use Rattle.dali_progress.proofs.Survey.Stands.{Begun, IsFirstDraw, IsCalledFor, Draws, called_after, hunted_after, roll_frames, frames_after, Rises, Hunts}
-use Rattle.dali_progress.proofs.Survey.{Stands.IsSmooth, Stands.SurveyStands, Turns.found_at, Woken.AreLow, Woken.none_bare, Woken.opened_lost, Woken.drawn_is}
-use Rattle.dali_progress.proofs.{Survey.Woken.drawn_none_named, Surveying.NoneDrawn, Surveying.draw_left, Surveying.roll_first, Surveying.IsClear}
+use Rattle.dali_progress.{proofs.Survey.Turns.found_at, proofs.Survey.Woken.{none_bare, opened_lost, drawn_is, drawn_none_named}, proofs.Surveying.NoneDrawn}
+use Rattle.dali_progress.proofs.Surveying.{draw_left, roll_first, IsClear}
 
 -- A CONTROLLER THAT SURVEYS ACTS, while gear draw, and while it searches.
 
@@ -46,10 +46,10 @@ pub drawn_turns : (start : Begun) (t : Machine) (o : Order) (gs : List Gear) (le
     → IsNoEnrolment t.last → stage_of t.trace ≡ stage.Opened → Draws stage.Opened t.kept t.heard t.course start gs left
     → IsNext start (machine_ordered t o) o gs left
 drawn_turns start t o gs left g st last is v =
-    hunts_first start t o t.course gs left (calm_of start t gs left st)
-    (given.begins_after t o stage.Opened g is tt (found_at start t gs left stage.Opened st is) last (never_eight t.tries st.tries))
-    (ap (begins_at t) is ∙ ap (λ y. searching_first y t.course) st.smooth.way) st.smooth
-    (record { opened = v.opened_is; loud = v.loud; first = λ some. absurd (omega (arith, some, none)); low = v.draw.low })
+    hunts_first start t o t.course gs left st.calm
+    (given.begins_after t o stage.Opened g is tt (found_at start t gs left stage.Opened st is) last (never_eight t.tries st.calm.untried))
+    (ap (begins_at t) is ∙ ap (λ y. searching_first y t.course) st.calm.smooth.way) st.calm.smooth
+    (record { opened_is = v.opened_is; loud = v.loud; first = λ some. absurd (omega (arith, some, none)); low = v.draw.low })
     v.somebody v.clear v.settled ready unnamed
     (tabled_drawn (unseen start.gear) t.kept.enrolled gs v.tabled)
     (drawn_frames (count_by is_wanted (those_drawn gs)) (count_by is_lost gs) (count_by is_bare gs) left
@@ -124,11 +124,8 @@ nothing_open t e = go (least_open t.kept t.heard) e where
 -- what is known when a hunt is over
 record IsOver (start : Begun) (t : Machine) (h : Answer) (gs : List Gear) (left : ℕ) : Type 0 where
   smooth : IsSmooth t.course
-  opened : t.course.opened ≡ true
-  loud : t.course.tally.is_silent ≡ false
-  first : IsFirstDraw t.course.tally gs
+  hunted : IsHunted t.course gs
   called : t.course.ascent.found ≡ 0 → 0 < count_by is_bare gs
-  low : AreLow gs
   clear : IsClear t.kept t.heard
   settled : IsSettled start.kept → IsSettled t.kept
   all : OfPowered (those_drawn gs) HasShort
@@ -159,7 +156,7 @@ vain_over start t o h r room gs left calm asks next none v = go (has_open t) ref
   lost = let parts = bare_split gs in let nobody = none_bare (those_drawn gs) v.all in omega (arith, parts, nobody)
 
   undrawn_yet : t.course.tally.draws ≡ 0
-  undrawn_yet = v.first (subst (λ n. 0 < n) lost some)
+  undrawn_yet = v.hunted.first (subst (λ n. 0 < n) lost some)
 
   after : (m n l : ℕ) → m ≡ 0 → n ≡ 0 → 1 + hunted_after (m + n) l ≤ left → 106 * l + 34 ≤ left
   after zero zero l one two enough = omega (arith, enough)
@@ -176,11 +173,11 @@ vain_over start t o h r room gs left calm asks next none v = go (has_open t) ref
   go : (b : Bool) → has_open t ≡ b → IsNext start (machine_ordered t o) o gs left
   go true is =
       first_by start t o (drawing (hunted t.course h)) gs left calm (begins_by t o (drawing (hunted t.course h)) r room asks drawn refl) drawn
-      (record { way = v.smooth.way; passed = v.smooth.passed; unmissed = v.smooth.unmissed })
+      v.smooth
       (record {
-        opened_is = v.opened;
-        draw = record { stage_is = tt; drawn = (none_but gs v.all, refl); gear = λ k in_row on. tt; low = v.low };
-        loud = v.loud;
+        opened_is = v.hunted.opened_is;
+        draw = record { stage_is = tt; drawn = (none_but gs v.all, refl); gear = λ k in_row on. tt; low = v.hunted.low };
+        loud = v.hunted.loud;
         somebody = some;
         clear = v.clear;
         settled = v.settled;
@@ -196,7 +193,7 @@ vain_over start t o h r room gs left calm asks next none v = go (has_open t) ref
   go false is =
       first_by start t o (closing_by (hunted t.course h) BlockFull) gs left calm
       (begins_by t o (closing_by (hunted t.course h) BlockFull) r room asks closes refl) closes
-      (record { way = v.smooth.way; passed = v.smooth.passed; unmissed = v.smooth.unmissed })
+      v.smooth
       (record {
         stage_is = tt;
         well = (some, all_taken t.kept t.heard (nothing_open t is));
@@ -217,17 +214,17 @@ found_over : (start : Begun) (t : Machine) (o : Order) (h : Answer) (r : SearchA
     → IsNext start (machine_ordered t o) o gs left
 found_over start t o h r room gs left calm asks next some v =
     first_by start t o (calling (hunted t.course h)) gs left calm (begins_by t o (calling (hunted t.course h)) r room asks next refl) next
-    (record { way = v.smooth.way; passed = v.smooth.passed; unmissed = v.smooth.unmissed })
+    v.smooth
     (record {
-      opened_is = v.opened;
+      opened_is = v.hunted.opened_is;
       roll = roll_first gs;
-      quiet = λ silent. absurd (let both : true ≡ false = sym silent ∙ v.loud in cc);
-      first = v.first;
+      quiet = λ silent. absurd (let both : true ≡ false = sym silent ∙ v.hunted.loud in cc);
+      first = v.hunted.first;
       clear = v.clear;
       settled = v.settled;
       tabled = drawn_tabled (unseen start.gear) t.kept.enrolled gs v.tabled;
       frames = subst (λ b. roll_frames b (count_by is_bare (those_drawn gs)) (count_by is_lost gs) ≤ left + 0)
-          (sym v.loud)
+          (sym v.hunted.loud)
           (subst (λ n. n ≤ left + 0)
           (sym (called_roll (count_by is_bare (those_drawn gs)) (count_by is_lost gs) (none_bare (those_drawn gs) v.all)))
           (count (called_after (count_by is_lost gs))
@@ -279,9 +276,7 @@ goes_on : (start : Begun) (t : Machine) (o : Order) (h : Answer) (r : SearchAddr
 goes_on start t o h r room gs left st purpose is next sends v = subst (λ q. IsNext start (machine_ordered t q) q gs left) (sym sends)
     (subst (λ m. IsNext start m (Put LATER (frame_of c)) gs left) (sym (later_asked t h r room (frame_of c) purpose is next)) (
       record {
-        tries = st.tries;
-        silent = st.silent;
-        smooth = smooth_as t.course (hunting (hunted t.course h)) refl refl st.smooth;
+        calm = st.calm;
         trace = st.trace;
         at = subst (λ s. Hunts false Hunting s t.kept t.heard (hunting (hunted t.course h)) start gs left) (sym is) v;
       },
@@ -343,9 +338,6 @@ hunting_turns start t o (stage.Hunted r (Some h) room) gs left g st purpose is r
   called : IsCalledFor Hunting (hunted t.course h).ascent gs
   called none = v.called (sym found ∙ none)
 
-  hunted_so : IsHunted (hunted t.course h) gs
-  hunted_so = record { opened = v.opened_is; loud = v.loud; first = v.first; low = v.low }
-
   after : frames_after Hunting t.course.ascent gs ≡ frames_after Hunting (hunted t.course h).ascent gs
   after = ap (λ n. hunted_after (n + count_by is_wanted (those_drawn gs)) (count_by is_lost gs)) (sym found)
 
@@ -361,11 +353,8 @@ hunting_turns start t o (stage.Hunted r (Some h) room) gs left g st purpose is r
       goes_on start t o h r room gs left st purpose is (next Again e)
       (asked_where t o h r room true asks (next Again e) (fits ∙ some))
       (record {
-        opened_is = v.opened_is;
-        loud = v.loud;
-        first = v.first;
+        hunted = v.hunted;
         called = called;
-        low = v.low;
         clear = v.clear;
         settled = v.settled;
         rest = v.rest;
@@ -376,9 +365,9 @@ hunting_turns start t o (stage.Hunted r (Some h) room) gs left g st purpose is r
         frames = subst (λ n. v.rest + 0 + n ≤ left + 5 * v.behind) after v.frames;
       })
   again false none e =
-      hunts_by start t o (hunted t.course h) v.rest gs left (calm_of start t gs left st)
+      hunts_by start t o (hunted t.course h) v.rest gs left st.calm
       (asked_where t o h r room false asks (next Again e) (fits ∙ none)) (next Again e)
-      (smooth_as t.course (hunted t.course h) refl refl st.smooth) hunted_so called v.clear v.settled
+      st.calm.smooth v.hunted called v.clear v.settled
       (rises_new now asking (those_drawn gs) v.rest answered e none) v.tabled
       (subst (λ n. v.rest + n ≤ left) after frames)
 
@@ -386,15 +375,12 @@ hunting_turns start t o (stage.Hunted r (Some h) room) gs left g st purpose is r
   go Again e = again (questions.has_room asking (asked_next now)) refl e
   go (Found m) e =
       let there : IsReachedAt now m (those_drawn gs) v.rest = rise_found now asking (those_drawn gs) v.rest m answered e in
-      first_by start t o (visiting (hunted t.course h) m) gs left (calm_of start t gs left st)
+      first_by start t o (visiting (hunted t.course h) m) gs left st.calm
       (begins_by t o (visiting (hunted t.course h) m) r room asks (next (Found m) e) refl) (next (Found m) e)
-      (smooth_as t.course (visiting (hunted t.course h) m) refl refl st.smooth)
+      st.calm.smooth
       (record {
-        opened_is = v.opened_is;
-        loud = v.loud;
-        first = v.first;
+        hunted = v.hunted;
         called = tt;
-        low = v.low;
         clear = v.clear;
         settled = λ e x has. inl (v.settled e x has);
         rest = 11 + search_frames there.more;
@@ -423,14 +409,11 @@ hunting_turns start t o (stage.Hunted r (Some h) room) gs left g st purpose is r
       count rest more after need enough = omega (arith, need, enough)
   go Nobody e =
       let none = rise_nobody now asking (those_drawn gs) v.rest answered e in
-      hunt_over start t o h r room gs left (calm_of start t gs left st) asks (next Nobody e)
+      hunt_over start t o h r room gs left st.calm asks (next Nobody e)
       (record {
-        smooth = st.smooth;
-        opened = v.opened_is;
-        loud = v.loud;
-        first = v.first;
+        smooth = st.calm.smooth;
+        hunted = v.hunted;
         called = v.called;
-        low = v.low;
         clear = v.clear;
         settled = v.settled;
         all = none.0;

@@ -14,10 +14,10 @@ use Rattle.dali_controller.{specs.Orders.machine_ordered, specs.Orders.AfterEnro
 use Rattle.dali_controller.proofs.Given as given
 use Rattle.dali_progress.specs.Rounds.{IsSettled}
 use Rattle.dali_progress.proofs.Both.{never_eight, entry_last, with_kept, no_enrolment_now, visits_first, frames_reserved, reserved_begins, enrolled_begins}
-use Rattle.dali_progress.proofs.{Frames.value_sought, Stands.search_frames, Survey.Begins.Calm, Survey.Begins.EnrolsCounted, Survey.Begins.ReleasesCounted}
-use Rattle.dali_progress.proofs.Survey.Begins.{EnrolsHunted, ReservesHunted, SurveyCommits, IsNext, smooth_as, first_by, asked_none, asks_on, hunts_on}
-use Rattle.dali_progress.proofs.Survey.{Begins.clear_reserved, Drawn.those_drawn, Drawn.is_lost, Queried.OneShort, Queried.IsTrue, Queried.unseen, Stands.Begun}
-use Rattle.dali_progress.proofs.{Survey.Stands.survey_frames, Survey.Stands.called_after, Tables.tabled_over}
+use Rattle.dali_progress.{proofs.Frames.value_sought, proofs.Stands.search_frames, proofs.Survey.Stands.{Calm, Begun, survey_frames, called_after}}
+use Rattle.dali_progress.proofs.Survey.Begins.{EnrolsCounted, ReleasesCounted, EnrolsHunted, ReservesHunted, SurveyCommits, IsNext, first_by, asked_none}
+use Rattle.dali_progress.{proofs.Survey.Begins.{asks_on, hunts_on, clear_reserved}, proofs.Survey.Drawn.{those_drawn, is_lost}, proofs.Survey.Queried.OneShort}
+use Rattle.dali_progress.{proofs.Survey.Queried.{IsTrue, unseen}, proofs.Tables.tabled_over}
 
 -- A RECORD OF A SURVEY IS KEPT, and the next transaction begins.
 
@@ -60,7 +60,7 @@ counted_next start m a r o gs left calm v free last g one holds = go o g (g.foll
   goes : (q : Order) → IsGivenBy (with_kept m (Enrol a r)) q → ((c : ℕ) → Has m.kept.reserved (c, r) → c ≡ a)
       → IsNext start (machine_ordered (with_kept m (Enrol a r)) q) q gs left
   goes q g own =
-      asks_on start (with_kept m (Enrol a r)) q (a + 1) gs left (record { tries = calm.tries; silent = calm.silent; smooth = calm.smooth })
+      asks_on start (with_kept m (Enrol a r)) q (a + 1) gs left calm
       (given.enrolled (with_kept m (Enrol a r)) q a r g last free own)
       (rest_next m (Enrol a r) free last) v.uncalled v.asked v.from_is
       (let small : a < 64 = v.small in omega (arith, small)) (λ e x has. has_before m.kept.enrolled (a, r) x (v.settled e x has)) v.clear one holds v.same
@@ -73,7 +73,7 @@ counted_next start m a r o gs left calm v free last g one holds = go o g (g.foll
       subst (λ y. IsNext start (machine_ordered (with_kept m (Enrol a r)) (Commit y)) (Commit y) gs left
       × (survey_slack (Some (Commit y)) None + 1 ≤ 2)) (sym is) (
         (
-          record { tries = calm.tries; silent = calm.silent; smooth = calm.smooth },
+          calm,
           (
             a,
             record {
@@ -98,13 +98,13 @@ counted_next start m a r o gs left calm v free last g one holds = go o g (g.foll
 released_begins : (m : Machine) (c r : ℕ) (o : Order) → Calm m → m.trace ≡ [] → m.last ≡ Some (Commit (Release c r)) → IsGivenBy (with_kept m (Release c r)) o
     → o ≡ beginning (next_course (with_kept m (Release c r)))
 released_begins m c r o calm free last g =
-    given.begins_free (with_kept m (Release c r)) o g free (no_enrolment_now c r m.last last) (never_eight m.tries calm.tries)
+    given.begins_free (with_kept m (Release c r)) o g free (no_enrolment_now c r m.last last) (never_eight m.tries calm.untried)
 
 released_next : (start : Begun) (m : Machine) (c r a : ℕ) (o : Order) (gs : List Gear) (left : ℕ) → Calm m → ReleasesCounted start m a gs left → m.trace ≡ []
     → m.last ≡ Some (Commit (Release c r)) → IsGivenBy (with_kept m (Release c r)) o → OneShort gs → IsTrue m.kept.enrolled gs
     → IsNext start (machine_ordered (with_kept m (Release c r)) o) o gs left
 released_next start m c r a o gs left calm v free last g one holds =
-    asks_on start (with_kept m (Release c r)) o (a + 1) gs left (record { tries = calm.tries; silent = calm.silent; smooth = calm.smooth })
+    asks_on start (with_kept m (Release c r)) o (a + 1) gs left calm
     (released_begins m c r o calm free last g)
     (rest_next m (Release c r) free last) v.uncalled v.asked v.from_is
     (let small : a < 64 = v.small in omega (arith, small)) (λ e x has. v.settled e x (without_has (c, r) m.kept.reserved x has))
@@ -118,7 +118,7 @@ hunted_next : (start : Begun) (m : Machine) (b r : ℕ) (o : Order) (gs : List G
     → IsNext start (machine_ordered (with_kept m (Enrol b r)) o) o gs left
 hunted_next start m b r o gs left calm v free last map g =
     hunts_on start (with_kept m (Enrol b r)) o r gs left
-    (record { tries = calm.tries; silent = calm.silent; smooth = calm.smooth }) (enrolled_begins m b r o v.reserved free last map g)
+    calm (enrolled_begins m b r o v.reserved free last map g)
     (rest_next m (Enrol b r) free last) v.hunted
     v.clear (λ e x has. settled x has (v.settled e x has))
     v.above v.ready v.unnamed
@@ -136,15 +136,12 @@ hunted_next start m b r o gs left calm v free last map g =
 reserved_next : (start : Begun) (m : Machine) (a r : ℕ) (o : Order) (gs : List Gear) (left : ℕ) → Calm m → ReservesHunted start m a r gs left → m.trace ≡ []
     → m.last ≡ Some (Commit (Reserve a r)) → IsGivenBy (with_kept m (Reserve a r)) o → IsNext start (machine_ordered (with_kept m (Reserve a r)) o) o gs left
 reserved_next start m a r o gs left calm v free last g =
-    first_by start (with_kept m (Reserve a r)) o (visiting m.course r) gs left (record { tries = calm.tries; silent = calm.silent; smooth = calm.smooth })
-    (reserved_begins m a r o calm.tries free last g) (rest_next m (Reserve a r) free last)
-    (smooth_as m.course (visiting m.course r) refl refl calm.smooth)
+    first_by start (with_kept m (Reserve a r)) o (visiting m.course r) gs left calm
+    (reserved_begins m a r o calm.untried free last g) (rest_next m (Reserve a r) free last)
+    calm.smooth
     (record {
-      opened_is = v.hunted.opened;
-      loud = v.hunted.loud;
-      first = v.hunted.first;
+      hunted = v.hunted;
       called = tt;
-      low = v.hunted.low;
       clear = clear_reserved m.kept m.heard a r v.clear v.open_is;
       settled = λ e x has. settled e x (has_cases m.kept.reserved (a, r) x has);
       rest = 7 + search_frames v.more;
@@ -185,7 +182,7 @@ pub committed : (start : Begun) (m : Machine) (x : Record) (o : Order) (gs : Lis
     → KeptTo start m x o gs left
 committed start m (Reserve a r) o gs left calm v free last map g one holds = (
   reserved_next start m a r o gs left calm v free last g,
-  begins_less o (with_kept m (Reserve a r)) 1 (reserved_begins m a r o calm.tries free last g) (omega arith),
+  begins_less o (with_kept m (Reserve a r)) 1 (reserved_begins m a r o calm.untried free last g) (omega arith),
 )
 committed start m (Enrol b r) o gs left calm (inl v) free last map g one holds = counted_next start m b r o gs left calm v free last g one holds
 committed start m (Enrol b r) o gs left calm (inr v) free last map g one holds = (

@@ -350,11 +350,13 @@ hunts_sent p s k heard c start gs numbers left d h hunt v is t told seek = (
   one.0,
   one.1,
   record {
-    opened_is = v.opened_is;
-    loud = v.loud;
-    first = λ some. v.first (subst (λ m. 0 < m) (lost_same d gs numbers (searching_of gs d by) (still_of gs d by)) some);
+    hunted = record {
+      opened_is = v.hunted.opened_is;
+      loud = v.hunted.loud;
+      first = λ some. v.hunted.first (subst (λ m. 0 < m) (lost_same d gs numbers (searching_of gs d by) (still_of gs d by)) some);
+      low = low_after d gs numbers (hunt_low p s k c.ascent c.number (those_drawn gs) v.rest d hunt v.at is) v.hunted.low;
+    };
     called = hunt_called p s k c.ascent c.number gs numbers v.rest d hunt v.at is v.called;
-    low = low_after d gs numbers (hunt_low p s k c.ascent c.number (those_drawn gs) v.rest d hunt v.at is) v.low;
     clear = v.clear;
     settled = v.settled;
     rest = sent.0;

@@ -13,6 +13,7 @@ use Rattle.dali_controller.specs.{Course.Course, Course.is_yes, Course.sought, C
 use Rattle.dali_controller.specs.declared.purpose.Purpose.{Purpose, TheVariants.Opening, TheVariants.Probing}
 use Rattle.dali_controller.specs.declared.purpose.Purpose.TheVariants.{Visiting, Resolving, Closing, Hunting, Asking as Counting, Calling, Drawing, PassingOver}
 use Rattle.dali_controller.specs.declared.{shorts.Shorts.Shorts, tally.Tally.Tally, way.Way.TheVariants.Surveying}
+use Rattle.dali_controller.specs.declared.{tally.Passed.Passed, way.Way.Way}
 use Rattle.dali_events.specs.{Searching.HasShort, Wanted.is_bare, Wanted.is_wanted, Wanted.wants, Wanted.OfPowered, Wanted.IsOpened, Wanted.NoneNamed}
 use Rattle.dali_events.proofs.Search.Leaving.{SameCore}
 use Rattle.dali_progress.specs.{Ends.AreTabled, Rounds.IsSettled}
@@ -206,13 +207,20 @@ IsBehind Visiting (stage.Withdrawn r a) behind gs left = (count_by is_wanted gs 
 IsBehind Visiting s behind gs left = count_by is_wanted gs ≡ suc behind
 IsBehind p s behind gs left = behind ≡ 0
 
+-- what is known while gear are hunted, whichever transaction is to come
+pub record Hunted (opened silent : Bool) (draws : ℕ) (gs : List Gear) : Type 0 where
+  pub opened_is : opened ≡ true
+  pub loud : silent ≡ false
+  pub first : 0 < count_by is_lost gs → draws ≡ 0
+  pub low : AreLow gs
+
+abbrev pub IsHunted : Course → List Gear → Type 0
+IsHunted c gs = Hunted c.opened c.tally.is_silent c.tally.draws gs
+
 pub record Hunts (told : Bool) (p : Purpose) (s : Stage) (k : Kept) (heard : Shorts) (c : Course) (start : Begun) (gs : List Gear)
     (left : ℕ) : Type 0 where
-  pub opened_is : c.opened ≡ true
-  pub loud : c.tally.is_silent ≡ false
-  pub first : IsFirstDraw c.tally gs
+  pub hunted : IsHunted c gs
   pub called : IsCalledFor p c.ascent gs
-  pub low : AreLow gs
   pub clear : IsClear k heard
   pub settled : IsSettled start.kept → IsSettledBut p c.number k
   pub rest : ℕ
@@ -256,14 +264,24 @@ SurveyAt told PassingOver s k heard asked c start gs left = ⊥
 SurveyAt told (Resolving a) s k heard asked c start gs left = ⊥
 
 -- if no visit fails, no gear is passed over, and no short address is asked again
-pub record IsSmooth (c : Course) : Type 0 where
-  pub way : c.way ≡ Surveying
-  pub passed : c.tally.passed ≡ none_passed
-  pub unmissed : c.tally.is_missed ≡ false
+pub record Smooth (y : Way) (p : Passed) (b : Bool) : Type 0 where
+  pub way : y ≡ Surveying
+  pub passed : p ≡ none_passed
+  pub unmissed : b ≡ false
+
+abbrev pub IsSmooth : Course → Type 0
+IsSmooth c = Smooth c.way c.tally.passed c.tally.is_missed
+
+-- what every machine has that is not disturbed
+pub record Undisturbed (tries silent : ℕ) (c : Course) : Type 0 where
+  pub untried : tries ≡ 0
+  pub loud : silent ≡ 0
+  pub smooth : IsSmooth c
+
+abbrev pub Calm : Machine → Type 0
+Calm m = Undisturbed m.tries m.silent m.course
 
 pub record SurveyStands (told : Bool) (start : Begun) (m : Machine) (gs : List Gear) (left : ℕ) : Type 0 where
-  pub tries : m.tries ≡ 0
-  pub silent : m.silent ≡ 0
-  pub smooth : IsSmooth m.course
+  pub calm : Calm m
   pub trace : IsTrace (stage_of m.trace) m.trace
   pub at : SurveyAt told m.course.purpose (stage_of m.trace) m.kept m.heard m.asked m.course start gs left

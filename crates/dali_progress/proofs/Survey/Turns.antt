@@ -17,12 +17,11 @@ use Rattle.dali_controller.proofs.Given.{IsGivenBy, IsNoEnrolment}
 use Rattle.dali_controller.proofs.Given as given
 use Rattle.dali_events.specs.Wanted.{gear_of, is_wanted, is_bare, IsOpened, NoneNamed}
 use Rattle.dali_events.proofs.Search.Wanted as wanted
-use Rattle.dali_progress.proofs.Survey.Begins.{IsNext, calm_of, calm_ordered, smooth_as, first_by, begins_whole, asked_none, asks_on, hunts_first, roll_some}
-use Rattle.dali_progress.proofs.Survey.Begins.{roll_none}
+use Rattle.dali_progress.proofs.Survey.Begins.{IsNext, first_by, begins_whole, asked_none, asks_on, hunts_first, roll_some, roll_none}
 use Rattle.dali_progress.proofs.Survey.Drawn.{those_drawn, is_lost, AreNumbered, bare_split, woken_opened, woken_none_named, tabled_drawn}
-use Rattle.dali_progress.proofs.Survey.Queried.{Holds, OneShort, IsTrue, unseen, below_next, IsAtHand, one_gear}
-use Rattle.dali_progress.proofs.Survey.Stands.{Begun, survey_frames, silent_left, Counts, IsUncalled, Calls, hunted_after, SurveyAt, SurveyStands}
-use Rattle.dali_progress.proofs.{Survey.Woken.all_short, Surveying.IsCalledBy, Surveying.roll_first, Surveying.roll_over}
+use Rattle.dali_progress.{proofs.Survey.Queried.{Holds, OneShort, IsTrue, unseen, below_next, IsAtHand, one_gear}, proofs.Survey.Stands.{Begun, survey_frames}}
+use Rattle.dali_progress.{proofs.Survey.Stands.{silent_left, Counts, IsUncalled, Calls, hunted_after, SurveyAt, SurveyStands}, proofs.Survey.Woken.all_short}
+use Rattle.dali_progress.proofs.Surveying.{IsCalledBy, roll_first, roll_over}
 
 -- A CONTROLLER THAT SURVEYS ACTS on what it was told, and what it orders goes on with the survey.
 
@@ -49,14 +48,14 @@ silent_turns start t o a b gs left g st last purpose is uncalled v whole one hol
   begins : o ≡ beginning (next_course t)
   begins =
       begins_whole t o (Asking a) (stage.HighAsked b None) g purpose is (λ r e. cc) (λ e. cc) tt (λ f sends. (let none = sends.0 in cc))
-      (found_at start t gs left (stage.HighAsked b None) st is) last st.tries whole
+      (found_at start t gs left (stage.HighAsked b None) st is) last st.calm.untried whole
 
   next : next_course t ≡ asked_once t (t.asked == 0)
   next = ap (begins_at t) is
 
   go : (e : Bool) → (t.asked == 0) ≡ e → IsNext start (machine_ordered t o) o gs left
   go true none =
-      asks_on start t o (a + 1) gs left (calm_of start t gs left st) begins (next ∙ ap (asked_once t) none) uncalled
+      asks_on start t o (a + 1) gs left st.calm begins (next ∙ ap (asked_once t) none) uncalled
       (let zero_is : t.asked ≡ 0 = grind (arith, nat_tests, none) in zero_is) v.from_is
       (let small : a < 64 = v.ask.small in omega (arith, small)) v.settled v.ask.clear one holds v.same
       (below_next a start.gear t.kept.enrolled t.kept.enrolled gs v.same v.tabled (λ x h. h) (λ i holds. absurd (v.ask.asked.1 i holds)))
@@ -64,7 +63,7 @@ silent_turns start t o a b gs left g st last purpose is uncalled v whole one hol
         count : (some wake : ℕ) → a < 64 → 3 * (63 - a) + some + wake ≤ left → 3 * (64 - (a + 1)) + wake ≤ left
         count some wake small enough = omega (arith, small, enough)
   go false again =
-      first_by start t o t.course gs left (calm_of start t gs left st) begins (next ∙ ap (asked_once t) again) st.smooth
+      first_by start t o t.course gs left st.calm begins (next ∙ ap (asked_once t) again) st.calm.smooth
       (subst (λ n. SurveyAt false t.course.purpose stage.Free t.kept t.heard n t.course start gs left)
       (sym (ap (λ b. asked_by b t.asked) uncalled.unopened)) (rw purpose (
         record { unopened = uncalled.unopened; undrawn = uncalled.undrawn; loud = uncalled.loud },
@@ -104,7 +103,7 @@ told_turns start t o a b n gs left g st purpose is uncalled v hand agrees = go (
       → ((i : ℕ) → Holds gs i a → ((gear_of gs i).random ≡ MASK24) ⊎ Has t.kept.enrolled (a, (gear_of gs i).random))
       → IsNext start (machine_ordered t q) q gs left
   goes q begins here =
-      asks_on start t q (a + 1) gs left (calm_of start t gs left st) begins (ap (begins_at t) is) uncalled v.count v.from_is
+      asks_on start t q (a + 1) gs left st.calm begins (ap (begins_at t) is) uncalled v.count v.from_is
       (let small : a < 64 = v.ask.small in omega (arith, small)) v.settled v.ask.clear hand.one hand.holds v.same
       (below_next a start.gear t.kept.enrolled t.kept.enrolled gs v.same v.tabled (λ x h. h) here)
       (count (survey_frames gs) v.ask.small v.frames)
@@ -118,7 +117,7 @@ told_turns start t o a b n gs left g st purpose is uncalled v hand agrees = go (
 
   enrols : IsNext start (machine_ordered t (Commit (Enrol a n))) (Commit (Enrol a n)) gs left
   enrols = (
-    calm_ordered start t (Enrol a n) gs left st,
+    st.calm,
     inl (record {
       uncalled = uncalled;
       asked = asked_none t.course.opened t.asked v.count;
@@ -210,8 +209,8 @@ silent_call_turns start t o r h room gs left st purpose is v begins said nobody 
 
   go : (b : Bool) → t.course.tally.is_silent ≡ b → IsNext start (machine_ordered t o) o gs left
   go true e =
-      first_by start t o (closing t.course AllFound) gs left (calm_of start t gs left st) begins (silent_next t r h room true is purpose said e)
-      (smooth_as t.course (closing t.course AllFound) refl refl st.smooth)
+      first_by start t o (closing t.course AllFound) gs left st.calm begins (silent_next t r h room true is purpose said e)
+      st.calm.smooth
       (record {
         stage_is = tt;
         well = all_short gs nobody;
@@ -222,9 +221,9 @@ silent_call_turns start t o r h room gs left st purpose is v begins said nobody 
         count : 9 ≤ left + (8 - room) → 1 ≤ left + 0
         count enough = omega (arith, enough)
   go false e =
-      first_by start t o (calling (record t.course { tally = silent_call t.course.tally })) gs left (calm_of start t gs left st) begins
+      first_by start t o (calling (record t.course { tally = silent_call t.course.tally })) gs left st.calm begins
       (silent_next t r h room false is purpose said e)
-      (record { way = st.smooth.way; passed = st.smooth.passed; unmissed = st.smooth.unmissed })
+      st.calm.smooth
       (record {
         opened_is = v.opened_is;
         roll = roll_first gs;
@@ -246,10 +245,10 @@ heard_call_turns : (start : Begun) (t : Machine) (o : Order) (r : SearchAddress)
     → Calls (stage.Hunted r (Some h) room) t.kept t.heard t.course start gs left → AreNumbered gs → o ≡ beginning (next_course t) → is_yes h ≡ true
     → 0 < count_by is_bare gs → room ≡ 1 → IsNext start (machine_ordered t o) o gs left
 heard_call_turns start t o r h room gs left st purpose is v numbered begins said some one =
-    hunts_first start t o heard gs left (calm_of start t gs left st) begins
-    (heard_next t r h room false is purpose said (unblocked t.course.tally st.smooth.passed))
-    (record { way = st.smooth.way; passed = st.smooth.passed; unmissed = st.smooth.unmissed })
-    (record { opened = v.opened_is; loud = refl; first = v.first; low = v.roll.low }) some v.clear v.settled opened unnamed
+    hunts_first start t o heard gs left st.calm begins
+    (heard_next t r h room false is purpose said (unblocked t.course.tally st.calm.smooth.passed))
+    st.calm.smooth
+    (record { opened_is = v.opened_is; loud = refl; first = v.first; low = v.roll.low }) some v.clear v.settled opened unnamed
     (tabled_drawn (unseen start.gear) t.kept.enrolled gs v.tabled)
     (subst (λ n. 106 * n + 10 + hunted_after n (count_by is_lost gs) ≤ left) (sym count)
     (enough (count_by is_bare (those_drawn gs)) (hunted_after (count_by is_bare (those_drawn gs)) (count_by is_lost gs))

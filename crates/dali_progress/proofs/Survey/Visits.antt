@@ -7,7 +7,7 @@ use Rattle.dali_gear.specs.Gear.{Gear}
 use Rattle.dali_script.specs.{Records.Assignment, Records.Kept, Records.Has, Records.HasRandom, Records.IsKept, Stages.stage_of}
 use Rattle.dali_script.specs.declared.{finding.Finding.TheVariants.Queried, orders.End.TheVariants.BlockFull, orders.Order.Order}
 use Rattle.dali_script.specs.declared.orders.Order.TheVariants.{Put, Commit, Done, Halt}
-use Rattle.dali_script.specs.declared.records.Record.TheVariants.{Reserve, Enrol}
+use Rattle.dali_script.specs.declared.records.Record.TheVariants.{Reserve}
 use Rattle.dali_script.{specs.declared.stage.Stage.Stage, proofs.Lists.has_map, proofs.Members.same_member}
 use Rattle.dali_script.specs.declared.stage.Stage.TheVariants as stage
 use Rattle.dali_search.specs.declared.step.Step.TheVariants.{Found}
@@ -21,13 +21,12 @@ use Rattle.dali_controller.{specs.declared.way.Way.TheVariants.Surveying, proofs
 use Rattle.dali_controller.proofs.Given as given
 use Rattle.dali_events.specs.Wanted.{is_wanted, wants, is_bare}
 use Rattle.dali_events.proofs.Search.Wanted as wanted
-use Rattle.dali_progress.{specs.Ends.AreTabled, specs.Rounds.IsSettled, proofs.Accounted.open_is}
-use Rattle.dali_progress.proofs.{Both.drawn_number, Both.close_ends, Both.entry_twice, Stands.search_frames, Stands.VisitFrames, Stands.Visits, Stands.Leaves}
-use Rattle.dali_progress.proofs.Survey.Begins.{IsNext, IsHunted, Above, calm_of, calm_ordered, smooth_as, later_by, turns_by, first_by, hunts_on, all_taken}
-use Rattle.dali_progress.proofs.Survey.{Begins.nobody_elses, Drawn.those_drawn, Drawn.is_lost, Drawn.bare_split, Drawn.drawn_tabled, Hunting.never_full}
-use Rattle.dali_progress.proofs.Survey.{Hunting.hunting_turns, Hunting.drawn_turns, Queried.unseen, Queried.IsAtHand, Stands.Begun, Stands.called_after}
-use Rattle.dali_progress.proofs.Survey.{Stands.Hunts, Stands.SurveyAt, Stands.SurveyStands, Stands.Draws, Turns.IsUncontradicted, Turns.found_at}
-use Rattle.dali_progress.proofs.{Survey.Turns.census_turns, Survey.Turns.calling_turns, Surveying.draw_over, Tables.tabled_over}
+use Rattle.dali_progress.{specs.Ends.AreTabled, specs.Rounds.IsSettled, proofs.Accounted.open_is, proofs.Both.{drawn_number, close_ends, entry_twice}}
+use Rattle.dali_progress.{proofs.Stands.{search_frames, VisitFrames, Visits, Leaves}, proofs.Survey.Begins.{IsNext, Above, later_by, turns_by, first_by}}
+use Rattle.dali_progress.{proofs.Survey.Begins.{hunts_on, all_taken, nobody_elses}, proofs.Survey.Drawn.{those_drawn, is_lost, bare_split, drawn_tabled}}
+use Rattle.dali_progress.{proofs.Survey.Hunting.{never_full, hunting_turns, drawn_turns}, proofs.Survey.Queried.{unseen, IsAtHand}, proofs.Survey.Stands.Begun}
+use Rattle.dali_progress.{proofs.Survey.Stands.{called_after, Hunts, SurveyAt, SurveyStands, Draws}, proofs.Survey.Turns.{IsUncontradicted, found_at}}
+use Rattle.dali_progress.{proofs.Survey.Turns.{census_turns, calling_turns}, proofs.Surveying.draw_over, proofs.Tables.tabled_over}
 
 -- A CONTROLLER THAT SURVEYS ACTS, in a visit and at its close; and in whatever transaction.
 
@@ -70,7 +69,7 @@ unnamed_turns : (start : Begun) (t : Machine) (o : Order) (r : SearchAddress) (g
     → IsNext start (machine_ordered t o) o gs left
 unnamed_turns start t o r gs left g st hand purpose is v =
     go (address_for t.kept.reserved (value_of r)) (found_address t.kept.reserved (value_of r)) (least_open t.kept t.heard) refl
-    (subst (λ y. AfterMaskOn y t (course_by t o) r o) st.smooth.way (g.ordered.unnamed r is)) where
+    (subst (λ y. AfterMaskOn y t (course_by t o) r o) st.calm.smooth.way (g.ordered.unnamed r is)) where
       w : Visits (stage.Unnamed r) t.kept t.course.number (those_drawn gs) v.rest
       w = v.at.0
 
@@ -99,9 +98,9 @@ unnamed_turns start t o r gs left g st hand purpose is v =
       reserves : (a : ℕ) → is_open t.kept t.heard a ≡ true → (HasRandom t.kept.reserved (value_of r) → ⊥)
           → IsNext start (machine_ordered t (Commit (Reserve a (value_of r)))) (Commit (Reserve a (value_of r))) gs left
       reserves a free none = (
-        calm_ordered start t (Reserve a (value_of r)) gs left st,
+        st.calm,
         record {
-          hunted = record { opened = v.opened_is; loud = v.loud; first = v.first; low = v.low };
+          hunted = v.hunted;
           clear = v.clear;
           settled = settled none;
           open_is = free;
@@ -135,9 +134,9 @@ unnamed_turns start t o r gs left g st hand purpose is v =
           subst (λ q. IsNext start (machine_ordered t q) q gs left) (sym mask)
           (reserves a (open_is t.kept t.heard (t.kept.block.last + 1 - t.kept.block.first) t.kept.block.first a least) none)
       go None none None least mask =
-          first_by start t o (closing_by t.course BlockFull) gs left (calm_of start t gs left st) mask
-          (ungiven_next t r false is st.smooth.way (ap (λ x. nat_lt t.course.tally.draws 3 && is_some x) least ∙ never (nat_lt t.course.tally.draws 3))
-          ∙ never_full t t.course st.smooth.unmissed) (smooth_as t.course (closing_by t.course BlockFull) refl refl st.smooth)
+          first_by start t o (closing_by t.course BlockFull) gs left st.calm mask
+          (ungiven_next t r false is st.calm.smooth.way (ap (λ x. nat_lt t.course.tally.draws 3 && is_some x) least ∙ never (nat_lt t.course.tally.draws 3))
+          ∙ never_full t t.course st.calm.smooth.unmissed) st.calm.smooth
           (record {
             stage_is = tt;
             well = (visited_bare r t.kept t.course.number gs v.rest w, all_taken t.kept t.heard least);
@@ -171,9 +170,6 @@ withdrawn_turns start t o r a gs left g st kept purpose is v agreed = go o g (g.
   same : value_of t.course.number ≡ value_of r
   same = ap value_of (sym w.searched)
 
-  hunted_so : IsHunted t.course gs
-  hunted_so = record { opened = v.opened_is; loud = v.loud; first = v.first; low = v.low }
-
   -- the frames that are left for the search that goes on
   ends : 106 * count_by is_wanted (those_drawn gs) + 32 + called_after (count_by is_lost gs) ≤ left
   ends = go (count_by is_wanted (those_drawn gs)) ((called_after (count_by is_lost gs)))
@@ -202,15 +198,15 @@ withdrawn_turns start t o r a gs left g st kept purpose is v agreed = go o g (g.
 
   go : (q : Order) → IsGivenBy t q → AfterFinding t a (value_of r) q → IsNext start (machine_ordered t q) q gs left
   go (Put p f) g has =
-      hunts_on start t (Put p f) (value_of r) gs left (calm_of start t gs left st)
-      (given.withdrawn_known t (Put p f) r a g is kept.enrolled has) (ap (begins_at t) is) hunted_so v.clear (settled has) up w.ready w.unnamed
+      hunts_on start t (Put p f) (value_of r) gs left st.calm
+      (given.withdrawn_known t (Put p f) r a g is kept.enrolled has) (ap (begins_at t) is) v.hunted v.clear (settled has) up w.ready w.unnamed
       (tabled_over (unseen start.gear) ((a, value_of r) ∷ t.kept.enrolled) t.kept.enrolled (those_drawn gs) (entry_twice t.kept.enrolled (a, value_of r) has)
       tabled)
       ends
   go (Commit x) g has = subst (λ y. IsNext start (machine_ordered t (Commit y)) (Commit y) gs left) (sym has) (
-    calm_ordered start t (Enrol a (value_of r)) gs left st,
+    st.calm,
     inr (record {
-      hunted = hunted_so;
+      hunted = v.hunted;
       clear = v.clear;
       ready = w.ready;
       unnamed = w.unnamed;
@@ -262,7 +258,7 @@ turned start t o gs left g st hand agreed whole last running = by (turn_of t.cou
   go Visiting purpose at over = visiting_turns start t o (stage_of t.trace) gs left g st hand purpose refl running at agreed over
   go (Closing e) purpose at over =
       subst (λ q. IsNext start (machine_ordered t q) q gs left)
-      (sym (close_ends t o e (stage_of t.trace) g purpose refl running at.stage_is st.trace.finding st.tries)) (at.well, at.tabled, at.settled)
+      (sym (close_ends t o e (stage_of t.trace) g purpose refl running at.stage_is st.trace.finding st.calm.untried)) (at.well, at.tabled, at.settled)
   go Opening purpose at over = absurd at
   go Probing purpose at over = absurd at
   go PassingOver purpose at over = absurd at
