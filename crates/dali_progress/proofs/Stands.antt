@@ -1,7 +1,7 @@
-use Rattle.std.proofs.Common.{◌≡◌, ℕ, ◌+◌, ◌-◌, ◌*◌, ◌<◌, ◌≤◌, ◌⊎◌, Bool, true, false, zero, suc, List, ◌∷◌, length, Option, Some}
+use Rattle.std.proofs.Common.{◌≡◌, ℕ, ◌+◌, ◌-◌, ◌*◌, ◌<◌, ◌≤◌, ◌⊎◌, Bool, true, false, zero, suc, List, ◌∷◌, length, Option, Some, sym, subst}
 use Rattle.std.specs.List.{count_by}
 use Rattle.dali_frame.specs.{Random.value_of, Random.MASK24, declared.frames.Answer.Answer, declared.numbers.SearchAddress.SearchAddress}
-use Rattle.dali_special.specs.declared.command.Command.{Command, TheVariants.Program}
+use Rattle.dali_special.specs.declared.command.Command.{Command, TheVariants.{SearchHigh, SearchMiddle, SearchLow, QueryShort, Program, Withdraw}}
 use Rattle.dali_gear.specs.Gear.{Gear, is_active}
 use Rattle.dali_script.specs.Records.{Assignment, Kept, Has, HasRandom}
 use Rattle.dali_script.specs.{Stages.IsSearched, Stages.IsTrace, Stages.stage_of, declared.orders.End.End, declared.stage.Stage.Stage}
@@ -217,3 +217,29 @@ sends_of p n k stage.Free c is = is.0
 sends_of p n k (stage.Unnamed r) c (visits, same, (a, small, may, gives)) = (a, small, may.reserved_for, gives)
 sends_of p n k (stage.Hunted r last left) c is = asks_of p n r last left c is
 sends_of p n k _ c is = is.0
+
+-- A FRAME OF A VISIT, by its stage: a byte of the number, a question, the address, or that the gear is withdrawn.
+pub some_is : (x c : Command) → Some x ≡ Some c → x ≡ c
+some_is x c e = cc
+
+pub visit_by : (P : Stage → Command → Type 0) (n : SearchAddress) (k : Kept) (gs : List Gear) (left : ℕ) → P stage.Free (SearchHigh n.high)
+    → ((high : ℕ) → P (stage.HighSent high) (SearchMiddle n.middle)) → ((high middle : ℕ) → P (stage.MiddleSent high middle) (SearchLow n.low))
+    → ((r : SearchAddress) → P (stage.NumberSent r) QueryShort)
+    → ((r : SearchAddress) (a : ℕ) → a < 64 → Has k.reserved (a, value_of r) → P (stage.Unnamed r) (Program (Some a)))
+    → ((r : SearchAddress) (a : ℕ) → P (stage.Programmed r a) QueryShort) → ((r : SearchAddress) (a : ℕ) → P (stage.Confirmed r a) Withdraw)
+    → (s : Stage) (c : Command) → VisitsAt s k n gs left → Sends Visiting n k s c → P s c
+visit_by P n k gs left high middle low asked given asked_again withdrawn stage.Free c v is = subst (P stage.Free) (sym is) high
+visit_by P n k gs left high middle low asked given asked_again withdrawn (stage.HighSent one) c v is =
+    subst (P (stage.HighSent one)) (some_is (SearchMiddle n.middle) c is) (middle one)
+visit_by P n k gs left high middle low asked given asked_again withdrawn (stage.MiddleSent one two) c v is =
+    subst (P (stage.MiddleSent one two)) (some_is (SearchLow n.low) c is) (low one two)
+visit_by P n k gs left high middle low asked given asked_again withdrawn (stage.NumberSent r) c v is =
+    subst (P (stage.NumberSent r)) (some_is QueryShort c is) (asked r)
+visit_by P n k gs left high middle low asked given asked_again withdrawn (stage.Unnamed r) c v is =
+    subst (P (stage.Unnamed r)) (sym is.3) (given r is.0 is.1 is.2)
+visit_by P n k gs left high middle low asked given asked_again withdrawn (stage.Programmed r a) c v is =
+    subst (P (stage.Programmed r a)) (some_is QueryShort c is) (asked_again r a)
+visit_by P n k gs left high middle low asked given asked_again withdrawn (stage.Confirmed r a) c v is =
+    subst (P (stage.Confirmed r a)) (some_is Withdraw c is) (withdrawn r a)
+visit_by P n k gs left high middle low asked given asked_again withdrawn (stage.Withdrawn r a) c v is = absurd (cc)
+visit_by P n k gs left high middle low asked given asked_again withdrawn _ c v is = absurd v.stage_is

@@ -21,12 +21,11 @@ use Rattle.dali_events.{specs.Searching.HasShort, specs.Wanted.gear_of, specs.Wa
 use Rattle.dali_events.proofs.Search.{Leaving.LeavesShort, Leaving.SeekHigh, Leaving.SeekMiddle, Opened.AreOpening, Wanted.number_same, Wanted.same_number}
 use Rattle.dali_events.proofs.Search.Leaving as leaving
 use Rattle.dali_events.proofs.Search.Opened as opening
-use Rattle.dali_progress.{specs.Ends.AreTabled, proofs.Frames.some_is, proofs.Frames.Seeks, proofs.Frames.value_sought, proofs.Stands.Sends}
-use Rattle.dali_progress.proofs.Survey.{Drawn.AreNumbered, Queried.Holds, Queried.OneGear, Queried.one_gear, Queried.Nobody, Queried.HasAnswered}
-use Rattle.dali_progress.proofs.Survey.{Queried.asked_gear, Queried.holds_on, Queried.holds_back, Queried.IsAtHand, Woken.AreLow, Woken.IsByteLow}
-use Rattle.dali_progress.proofs.Survey.Woken.{bare_after, undrawn_after, undrawn_once, stays_initialised, all_short, called_answer, low_after, leaves_short}
-use Rattle.dali_progress.proofs.{Survey.Woken.low_sent, Survey.Woken.nobody_searched, Tables.LeavesNames, Tables.tabled_left, Tables.StandsStill}
 use Rattle.dali_progress.proofs.Tables as tables
+use Rattle.dali_progress.{specs.Ends.AreTabled, proofs.Stands.{some_is, Sends}, proofs.Frames.{Seeks, value_sought}, proofs.Survey.Drawn.AreNumbered}
+use Rattle.dali_progress.proofs.Survey.Queried.{Holds, OneGear, one_gear, Nobody, HasAnswered, asked_gear, holds_on, holds_back, IsAtHand}
+use Rattle.dali_progress.proofs.Survey.Woken.{AreLow, IsByteLow, bare_after, undrawn_after, undrawn_once, stays_initialised, all_short, called_answer}
+use Rattle.dali_progress.{proofs.Survey.Woken.{low_after, leaves_short, low_sent, nobody_searched}, proofs.Tables.{LeavesNames, tabled_left, StandsStill}}
 
 -- A SHORT ADDRESS IS ASKED for its random address, byte by byte: who told what was heard so far, and what is marked.
 

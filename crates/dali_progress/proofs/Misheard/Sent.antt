@@ -13,11 +13,11 @@ use Rattle.dali_controller.specs.declared.tally.Tally.{Tally}
 use Rattle.dali_events.{specs.Wanted.gear_of, specs.Wanted.is_wanted, specs.Wanted.wants, proofs.Search.Leaving.SameCore}
 use Rattle.dali_events.proofs.Search.Leaving as leaving
 use Rattle.dali_progress.specs.Misheard.{IsHeardBut}
-use Rattle.dali_progress.proofs.{Frames.Seeks, Frames.probe_says, Frames.gives_same, Frames.some_is, Misheard.Gear.HaveDrawn, Misheard.Gear.AreSought}
-use Rattle.dali_progress.proofs.Misheard.Stands.{IsCounted, HuntStage, Rises, IsReached, IsOfOne, HuntAt, found_at, failed_at, IsQuietAt, IsFew, Hunts}
-use Rattle.dali_progress.proofs.Survey.{Drawn.AreNumbered, Drawn.DrewApart, Rising.IsByteSent, Rising.byte_sent, Woken.AreLow, Woken.IsByteLow, Woken.low_after}
-use Rattle.dali_progress.proofs.Surveying.{IsTakenBut}
 use Rattle.dali_progress.proofs.Misheard.Gear as gear
+use Rattle.dali_progress.{proofs.Frames.{Seeks, probe_says, gives_same}, proofs.Stands.some_is, proofs.Misheard.Gear.{HaveDrawn, AreSought}}
+use Rattle.dali_progress.proofs.Misheard.Stands.{IsCounted, HuntStage, Rises, IsReached, IsOfOne, HuntAt, found_at, failed_at, IsQuietAt, IsFew, Hunts}
+use Rattle.dali_progress.{proofs.Survey.Drawn.{AreNumbered, DrewApart}, proofs.Survey.Rising.{IsByteSent, byte_sent}, proofs.Survey.Woken.{AreLow, IsByteLow}}
+use Rattle.dali_progress.{proofs.Survey.Woken.low_after, proofs.Surveying.IsTakenBut}
 
 -- A FRAME IS SENT, and each gear with power takes it.
 

@@ -16,13 +16,12 @@ use Rattle.dali_events.proofs.Search.{Leaving.SameCore, Programming.after_progra
 use Rattle.dali_events.proofs.Search.Withdrawing.{after_withdraw, withdrawn_wants, withdraws_at}
 use Rattle.dali_events.proofs.Search.Leaving as leaving
 use Rattle.dali_events.proofs.Search.Wanted as wanted
-use Rattle.dali_progress.{specs.Misheard.IsNoByte, specs.Misheard.IsHeardBut, proofs.Frames.Seeks, proofs.Frames.value_sought, proofs.Frames.some_is}
-use Rattle.dali_progress.proofs.{Frames.mask_queried, Frames.verified_short, Frames.short_given, Frames.short_kept, Later.queried_by, Later.verified_by}
-use Rattle.dali_progress.proofs.Misheard.Gear.{AreSought, AreBare, AreBareBut, AreNamedBut, HasOne}
-use Rattle.dali_progress.proofs.Misheard.Sent.{Taken, counted_on, told_hunts, few_on, reached_core, own_core, hunts_core, low_byte, HuntedTo}
-use Rattle.dali_progress.proofs.Misheard.Stands.{StageOf, IsCounted, IsReached, IsPast, IsOfOne, VisitStage, Visits, HuntAt, found_at, failed_at, Hunts}
-use Rattle.dali_progress.proofs.{Stands.HaveShort, Survey.Woken.low_after}
 use Rattle.dali_progress.proofs.Misheard.Gear as gear
+use Rattle.dali_progress.{specs.Misheard.{IsNoByte, IsHeardBut}, proofs.Frames.{Seeks, value_sought, mask_queried, verified_short, short_given, short_kept}}
+use Rattle.dali_progress.{proofs.Stands.{some_is, HaveShort}, proofs.Later.{queried_by, verified_by}, proofs.Misheard.Gear.{AreSought, AreBare, AreBareBut}}
+use Rattle.dali_progress.{proofs.Misheard.Gear.{AreNamedBut, HasOne}, proofs.Misheard.Sent.{Taken, counted_on, told_hunts, few_on, reached_core, own_core}}
+use Rattle.dali_progress.{proofs.Misheard.Sent.{hunts_core, low_byte, HuntedTo}, proofs.Misheard.Stands.{StageOf, IsCounted, IsReached, IsPast, IsOfOne}}
+use Rattle.dali_progress.{proofs.Misheard.Stands.{VisitStage, Visits, HuntAt, found_at, failed_at, Hunts}, proofs.Survey.Woken.low_after}
 
 -- A FRAME OF A VISIT IS SENT. If it is gear g that is visited, anything may be heard of it; of any other it is heard what it
 -- answers.

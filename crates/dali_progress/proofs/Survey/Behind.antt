@@ -12,8 +12,8 @@ use Rattle.dali_events.{specs.Wanted.wants, specs.Wanted.is_wanted, proofs.Searc
 use Rattle.dali_events.proofs.Search.Leaving as leaving
 use Rattle.dali_events.proofs.Search.Programming as programming
 use Rattle.dali_events.proofs.Search.Withdrawing as withdrawing
-use Rattle.dali_progress.proofs.{Frames.Seeks, Frames.some_is, Later.queried_by, Later.verified_by, Stands.search_frames, Stands.VisitFrames, Stands.VisitsAt}
-use Rattle.dali_progress.proofs.{Stands.Sends, Survey.Stands.IsBehind, Survey.Stands.IsLeastAt, Survey.Stands.IsReached, Survey.Stands.HuntAt}
+use Rattle.dali_progress.{proofs.Frames.Seeks, proofs.Later.{queried_by, verified_by}, proofs.Stands.{search_frames, VisitFrames, VisitsAt, Sends, visit_by}}
+use Rattle.dali_progress.proofs.Survey.Stands.{IsBehind, IsLeastAt, IsReached, HuntAt}
 
 -- THE GEAR THAT IS VISITED is the least that is wanted; and how many gear are behind: that are counted with more frames than
 -- the search needs for them.
@@ -47,32 +47,19 @@ least_core gs hs n same least m has = least m (sym (leaving.core_wants gs hs m s
 pub least_sent : (s : Stage) (k : Kept) (x : Ascent) (n : SearchAddress) (gs : List Gear) (numbers : List ℕ) (left : ℕ) (c : Command) (h : Answer)
     → VisitsAt s k n gs left → Sends Visiting n k s c → Seeks s gs → IsReached s x n gs
     → IsLeastAt (next_stage s c h) n (row_after Everyone c 0 gs numbers)
-least_sent stage.Free k x n gs numbers left c h v is seek at = subst (λ d. IsLeastAt (next_stage stage.Free d h) n (row_after Everyone d 0 gs numbers)) (sym is)
-    (least_core gs _ n (leaving.core_after (SearchHigh n.high) gs numbers tt) at.least)
-least_sent (stage.HighSent high) k x n gs numbers left c h v is seek at =
-    subst (λ d. IsLeastAt (next_stage (stage.HighSent high) d h) n (row_after Everyone d 0 gs numbers)) (some_is (SearchMiddle n.middle) c is)
-    (least_core gs _ n (leaving.core_after (SearchMiddle n.middle) gs numbers tt) at.least)
-least_sent (stage.MiddleSent high middle) k x n gs numbers left c h v is seek at =
-    subst (λ d. IsLeastAt (next_stage (stage.MiddleSent high middle) d h) n (row_after Everyone d 0 gs numbers)) (some_is (SearchLow n.low) c is)
-    (least_core gs _ n (leaving.core_after (SearchLow n.low) gs numbers tt) at.least)
-least_sent (stage.NumberSent r) k x n gs numbers left c h v is seek at =
-    subst (λ d. IsLeastAt (next_stage (stage.NumberSent r) d h) n (row_after Everyone d 0 gs numbers)) (some_is QueryShort c is)
-    (least_by (queried r h) n _ (least_core gs _ n (leaving.core_after QueryShort gs numbers tt) at.least) (first_query r h))
-least_sent (stage.Unnamed r) k x n gs numbers left c h v is seek at =
-    subst (λ d. IsLeastAt (next_stage (stage.Unnamed r) d h) n (row_after Everyone d 0 gs numbers)) (sym is.3)
-    (λ m has. at.least m (sym (programming.programmed_wants gs numbers r is.0 m (seek r refl)) ∙ has))
-least_sent (stage.Programmed r a) k x n gs numbers left c h v is seek at =
-    subst (λ d. IsLeastAt (next_stage (stage.Programmed r a) d h) n (row_after Everyone d 0 gs numbers)) (some_is QueryShort c is)
-    (least_by (verified r a h) n _ (least_core gs _ n (leaving.core_after QueryShort gs numbers tt) at.least) (second_query r a h))
-least_sent (stage.Confirmed r a) k x n gs numbers left c h v is seek at =
-    subst (λ d. IsLeastAt (next_stage (stage.Confirmed r a) d h) n (row_after Everyone d 0 gs numbers)) (some_is Withdraw c is)
-    (λ m has.
-    let was = withdrawing.withdrawn_wants gs numbers r m (seek r refl) has in
-    let from : value_of n ≤ m = at.least m was.0 in
-    let other : m ≡ value_of n → ⊥ = λ e. was.1 (e ∙ ap value_of (sym v.searched)) in
-    omega (arith, from, other))
-least_sent (stage.Withdrawn r a) k x n gs numbers left c h v is seek at = absurd (cc)
-least_sent _ k x n gs numbers left c h v is seek at = absurd v.stage_is
+least_sent s k x n gs numbers left c h v is seek at =
+    visit_by (λ t d. VisitsAt t k n gs left → Seeks t gs → IsReached t x n gs → IsLeastAt (next_stage t d h) n (row_after Everyone d 0 gs numbers)) n k gs left
+    (λ w by r. least_core gs _ n (leaving.core_after (SearchHigh n.high) gs numbers tt) r.least)
+    (λ high w by r. least_core gs _ n (leaving.core_after (SearchMiddle n.middle) gs numbers tt) r.least)
+    (λ high middle w by r. least_core gs _ n (leaving.core_after (SearchLow n.low) gs numbers tt) r.least)
+    (λ q w by r. least_by (queried q h) n _ (least_core gs _ n (leaving.core_after QueryShort gs numbers tt) r.least) (first_query q h))
+    (λ q a small has w by r m is. r.least m (sym (programming.programmed_wants gs numbers q a m (by q refl)) ∙ is))
+    (λ q a w by r. least_by (verified q a h) n _ (least_core gs _ n (leaving.core_after QueryShort gs numbers tt) r.least) (second_query q a h))
+    (λ q a w by r m has.
+    let was = withdrawing.withdrawn_wants gs numbers q m (by q refl) has in
+    let from : value_of n ≤ m = r.least m was.0 in
+    let other : m ≡ value_of n → ⊥ = λ e. was.1 (e ∙ ap value_of (sym w.searched)) in
+    omega (arith, from, other)) s c v is v seek at
 
 -- ---------------------------------------------------------------- how many gear are behind
 
@@ -84,34 +71,22 @@ behind_by _ behind hs l count never = count
 visit_behind : (s : Stage) (k : Kept) (n : SearchAddress) (gs : List Gear) (numbers : List ℕ) (left l behind : ℕ) (c : Command) (h : Answer) → left ≡ suc l
     → VisitsAt s k n gs left → Sends Visiting n k s c → Seeks s gs → IsBehind Visiting s behind gs left
     → IsBehind Visiting (next_stage s c h) behind (row_after Everyone c 0 gs numbers) l
-visit_behind stage.Free k n gs numbers left l behind c h less v is seek count =
-    subst (λ d. IsBehind Visiting (next_stage stage.Free d h) behind (row_after Everyone d 0 gs numbers) l) (sym is)
-    (leaving.core_count_wanted gs _ (leaving.core_after (SearchHigh n.high) gs numbers tt) ∙ count)
-visit_behind (stage.HighSent high) k n gs numbers left l behind c h less v is seek count =
-    subst (λ d. IsBehind Visiting (next_stage (stage.HighSent high) d h) behind (row_after Everyone d 0 gs numbers) l) (some_is (SearchMiddle n.middle) c is)
-    (leaving.core_count_wanted gs _ (leaving.core_after (SearchMiddle n.middle) gs numbers tt) ∙ count)
-visit_behind (stage.MiddleSent high middle) k n gs numbers left l behind c h less v is seek count =
-    subst (λ d. IsBehind Visiting (next_stage (stage.MiddleSent high middle) d h) behind (row_after Everyone d 0 gs numbers) l) (some_is (SearchLow n.low) c is)
-    (leaving.core_count_wanted gs _ (leaving.core_after (SearchLow n.low) gs numbers tt) ∙ count)
-visit_behind (stage.NumberSent r) k n gs numbers left l behind c h less v is seek count =
-    subst (λ d. IsBehind Visiting (next_stage (stage.NumberSent r) d h) behind (row_after Everyone d 0 gs numbers) l) (some_is QueryShort c is)
-    (behind_by (queried r h) behind _ l (leaving.core_count_wanted gs _ (leaving.core_after QueryShort gs numbers tt) ∙ count) (first_query r h))
-visit_behind (stage.Unnamed r) k n gs numbers left l behind c h less v is seek count =
-    subst (λ d. IsBehind Visiting (next_stage (stage.Unnamed r) d h) behind (row_after Everyone d 0 gs numbers) l) (sym is.3)
-    (programming.programmed_count gs numbers r is.0 (seek r refl) ∙ count)
-visit_behind (stage.Programmed r a) k n gs numbers left l behind c h less v is seek count =
-    subst (λ d. IsBehind Visiting (next_stage (stage.Programmed r a) d h) behind (row_after Everyone d 0 gs numbers) l) (some_is QueryShort c is)
-    (behind_by (verified r a h) behind _ l (leaving.core_count_wanted gs _ (leaving.core_after QueryShort gs numbers tt) ∙ count) (second_query r a h))
-visit_behind (stage.Confirmed r a) k n gs numbers left l behind c h less v is seek count =
-    subst (λ d. IsBehind Visiting (next_stage (stage.Confirmed r a) d h) behind (row_after Everyone d 0 gs numbers) l) (some_is Withdraw c is) (
+visit_behind s k n gs numbers left l behind c h less v is seek count =
+    visit_by (λ t d. VisitsAt t k n gs left → Seeks t gs → IsBehind Visiting t behind gs left
+    → IsBehind Visiting (next_stage t d h) behind (row_after Everyone d 0 gs numbers) l) n k gs left
+    (λ w by b. leaving.core_count_wanted gs _ (leaving.core_after (SearchHigh n.high) gs numbers tt) ∙ b)
+    (λ high w by b. leaving.core_count_wanted gs _ (leaving.core_after (SearchMiddle n.middle) gs numbers tt) ∙ b)
+    (λ high middle w by b. leaving.core_count_wanted gs _ (leaving.core_after (SearchLow n.low) gs numbers tt) ∙ b)
+    (λ r w by b. behind_by (queried r h) behind _ l (leaving.core_count_wanted gs _ (leaving.core_after QueryShort gs numbers tt) ∙ b) (first_query r h))
+    (λ r a small has w by b. programming.programmed_count gs numbers r a (by r refl) ∙ b)
+    (λ r a w by b. behind_by (verified r a h) behind _ l (leaving.core_count_wanted gs _ (leaving.core_after QueryShort gs numbers tt) ∙ b) (second_query r a h))
+    (λ r a w by b. (
       (let fewer : count_by is_wanted (row_after Everyone Withdraw 0 gs numbers) < count_by is_wanted gs =
-          withdrawing.withdrawn_count gs numbers r (seek r refl)
-          (subst (λ m. wants gs m ≡ true) (ap value_of (sym v.searched)) v.visited.wanted) in omega (arith, fewer, count)),
-      (let more : suc v.more ≡ suc behind = sym v.visited.count ∙ count in
-          let enough : 7 + search_frames v.more ≤ left + 6 = v.frames in omega (arith, less, more, enough)),
-    )
-visit_behind (stage.Withdrawn r a) k n gs numbers left l behind c h less v is seek count = absurd (cc)
-visit_behind _ k n gs numbers left l behind c h less v is seek count = absurd v.stage_is
+          withdrawing.withdrawn_count gs numbers r (by r refl)
+          (subst (λ m. wants gs m ≡ true) (ap value_of (sym w.searched)) w.visited.wanted) in omega (arith, fewer, b)),
+      (let more : suc w.more ≡ suc behind = sym w.visited.count ∙ b in
+          let enough : 7 + search_frames w.more ≤ left + 6 = w.frames in omega (arith, less, more, enough)),
+    )) s c v is v seek count
 
 pub behind_sent : (p : Purpose) (s : Stage) (k : Kept) (x : Ascent) (n : SearchAddress) (gs : List Gear) (numbers : List ℕ) (left l behind : ℕ) (c : Command)
     (h : Answer) → IsHunt p → left ≡ suc l → HuntAt false p s k x n gs left → Sends p n k s c → Seeks s gs → IsBehind p s behind gs left

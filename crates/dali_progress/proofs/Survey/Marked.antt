@@ -16,12 +16,12 @@ use Rattle.dali_events.specs.{Happens.entry, Plan.block_at, Wanted.gear_of, Worl
 use Rattle.dali_events.proofs.Search.Wanted.{same_number, number_same}
 use Rattle.dali_standing.specs.Seats.{informed_by}
 use Rattle.dali_world.specs.Site.{SiteState, world, machine_at}
-use Rattle.dali_progress.{specs.Rounds.Rounds, specs.Rounds.Succeeds, specs.Rounds.IsAlone, specs.Rounds.HasEnded, specs.Rounds.site_after, proofs.Along.Runs}
-use Rattle.dali_progress.proofs.{Along.RunsAll, Along.runs_all, Frames.some_is, Gives.Gives, Gives.frame_gives, Logged.same_some, Lone.Moment, Lone.IsDueOf}
-use Rattle.dali_progress.proofs.{Lone.acts_by, Lone.due_of, Lone.ended_rests, Stands.Sends, Survey.Goes.of_survey, Survey.Goes.sends_now, Survey.Goes.argument}
-use Rattle.dali_progress.proofs.Survey.{Goes.one_now, Queried.Holds, Queried.Nobody, Queried.OneGear, Queried.one_gear, Stands.Begun, Stands.Counts}
-use Rattle.dali_progress.proofs.{Survey.Stands.SurveyAt, Surveying.heard_high, Surveying.with_other, Surveying.without_same, Surveying.without_other}
 use Rattle.dali_progress.proofs.Drawing as staying
+use Rattle.dali_progress.{specs.Rounds.{Rounds, Succeeds, IsAlone, HasEnded, site_after}, proofs.Along.{Runs, RunsAll, runs_all}, proofs.Stands.some_is}
+use Rattle.dali_progress.{proofs.Stands.Sends, proofs.Gives.{Gives, frame_gives}, proofs.Logged.same_some, proofs.Lone.{Moment, IsDueOf, acts_by, due_of}}
+use Rattle.dali_progress.{proofs.Lone.ended_rests, proofs.Survey.Goes.{of_survey, sends_now, argument, one_now}, proofs.Survey.Queried.{Holds, Nobody, OneGear}}
+use Rattle.dali_progress.{proofs.Survey.Queried.one_gear, proofs.Survey.Stands.{Begun, Counts, SurveyAt}, proofs.Surveying.{heard_high, with_other}}
+use Rattle.dali_progress.proofs.Surveying.{without_same, without_other}
 
 -- WHAT A SURVEY HAS MARKED, GEAR HAS, if nothing is disturbed.
 

@@ -18,9 +18,9 @@ use Rattle.dali_events.proofs.Search.Leaving.{SameCore}
 use Rattle.dali_events.proofs.Search.Leaving as leaving
 use Rattle.dali_events.proofs.Search.Wanted as wanted
 use Rattle.dali_progress.specs.Ends.{AreTabled}
-use Rattle.dali_progress.proofs.Frames.{IsTaken, Seeks, probe_says, value_sought, gives_same, some_is, nobody_short}
-use Rattle.dali_progress.proofs.{Stands.to_come, Stands.Sends, Survey.Drawn.IsSoughtBy, Survey.Stands.pending, Survey.Stands.after_rise}
-use Rattle.dali_progress.proofs.{Survey.Stands.thirds_for, Survey.Stands.RiseStage, Survey.Stands.Rises, Tables.LeavesNames, Tables.tabled_left}
+use Rattle.dali_progress.{proofs.Frames.{IsTaken, Seeks, probe_says, value_sought, gives_same, nobody_short}, proofs.Stands.{some_is, to_come, Sends}}
+use Rattle.dali_progress.{proofs.Survey.Drawn.IsSoughtBy, proofs.Survey.Stands.{pending, after_rise, thirds_for, RiseStage, Rises}, proofs.Tables.LeavesNames}
+use Rattle.dali_progress.{proofs.Tables.tabled_left}
 
 -- THE SEARCH THAT GOES UP, alone and undisturbed: what its questions tell, and what they cost.
 

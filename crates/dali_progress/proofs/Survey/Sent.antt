@@ -4,7 +4,7 @@ use Rattle.std.{proofs.lemmas.Bool.Decides.nat_tests, specs.List.count_by}
 use Rattle.dali_frame.specs.{Random.value_of, Random.MASK24, declared.frames.Answer.Answer, declared.frames.Answer.TheVariants.Silence}
 use Rattle.dali_frame.specs.declared.{frames.Answer.TheVariants.Byte, frames.Answer.TheVariants.Damaged, numbers.SearchAddress.SearchAddress}
 use Rattle.dali_special.specs.declared.command.Command.{Command}
-use Rattle.dali_special.specs.declared.command.Command.TheVariants.{Terminate, Withdraw, SearchMiddle, SearchLow, QueryShort, RandomByte}
+use Rattle.dali_special.specs.declared.command.Command.TheVariants.{Terminate, RandomByte}
 use Rattle.dali_special.specs.declared.command.Part.TheVariants.{High, Middle, Low}
 use Rattle.dali_gear.specs.{Gear.Gear, Gear.draws_a_number, Row.row_after, Row.takes, Row.left_after, Row.drawn_one, Row.drawn_of, Row.answers_of, Row.heard_of}
 use Rattle.dali_gear.{specs.declared.row.Reach.TheVariants.Everyone, proofs.RowLemmas.needs_none}
@@ -20,18 +20,17 @@ use Rattle.dali_controller.specs.declared.{purpose.Purpose.TheVariants.PassingOv
 use Rattle.dali_events.specs.Wanted.{is_bare, is_wanted}
 use Rattle.dali_events.proofs.Search.Leaving.{SameCore, LeavesCore, LeavesShort}
 use Rattle.dali_events.proofs.Search.Leaving as leaving
-use Rattle.dali_progress.{specs.Ends.AreTabled, proofs.Frames.IsTaken, proofs.Frames.Seeks}
-use Rattle.dali_progress.proofs.{Frames.one_less, Frames.at_sent, Frames.value_sought, Frames.some_is, Stands.Sends, Stands.to_come, Stands.VisitsAt}
-use Rattle.dali_progress.proofs.Survey.{Begins.roll_some, Begins.roll_none, Behind.IsHunt, Behind.least_sent, Behind.behind_sent, Behind.hunt_deep}
-use Rattle.dali_progress.proofs.Survey.Drawn.{those_drawn, is_lost, AreNumbered, IsSearching, IsSoughtBy, not_randomise, row_drawn, answers_drawn, searching_of}
-use Rattle.dali_progress.proofs.Survey.Drawn.{no_draw, still_of, lost_same, seek_drawn, apart_drawn, DrewApart}
-use Rattle.dali_progress.proofs.Survey.Queried.{unseen, core_then, holds_back, IsAtHand, below_on}
-use Rattle.dali_progress.proofs.Survey.Rising.{rises_sent, rising_one, rising_tabled, rising_sought}
-use Rattle.dali_progress.proofs.Survey.Stands.{Begun, roll_frames, Calls, Draws, survey_frames, silent_left, asked_left, Counts, AskCount, called_after}
-use Rattle.dali_progress.proofs.Survey.Stands.{hunted_after, frames_after, IsCalledFor, surplus, IsBehind, HuntAt, Hunts, SurveyEnds, SurveyCloses, SurveyAt}
-use Rattle.dali_progress.proofs.Survey.Woken.{bare_after, lost_after, drew_after, IsByteLow, low_after, all_left}
-use Rattle.dali_progress.proofs.Surveying.{IsTakenBut, RollSent, DrawSent, call_sent, draw_left, roll_sent, draw_sent, draws_short, draws_tabled, AskedAt}
-use Rattle.dali_progress.proofs.{Surveying.asked_sent, Tables.tabled_left, Tables.IsTabledTo, Tables.at_tabled}
+use Rattle.dali_progress.{specs.Ends.AreTabled, proofs.Frames.{IsTaken, Seeks, one_less, at_sent, value_sought}, proofs.Stands.{some_is, Sends, to_come}}
+use Rattle.dali_progress.{proofs.Stands.{VisitsAt, visit_by}, proofs.Survey.Begins.{roll_some, roll_none}, proofs.Survey.Behind.{IsHunt, least_sent}}
+use Rattle.dali_progress.{proofs.Survey.Behind.{behind_sent, hunt_deep}, proofs.Survey.Drawn.{those_drawn, is_lost, AreNumbered, IsSearching, IsSoughtBy}}
+use Rattle.dali_progress.proofs.Survey.Drawn.{not_randomise, row_drawn, answers_drawn, searching_of, no_draw, still_of, lost_same, seek_drawn, apart_drawn}
+use Rattle.dali_progress.{proofs.Survey.Drawn.DrewApart, proofs.Survey.Queried.{unseen, core_then, holds_back, IsAtHand, below_on}}
+use Rattle.dali_progress.{proofs.Survey.Rising.{rises_sent, rising_one, rising_tabled, rising_sought}, proofs.Survey.Stands.{Begun, roll_frames, Calls, Draws}}
+use Rattle.dali_progress.proofs.Survey.Stands.{survey_frames, silent_left, asked_left, Counts, AskCount, called_after, hunted_after, frames_after, IsCalledFor}
+use Rattle.dali_progress.{proofs.Survey.Stands.{surplus, IsBehind, HuntAt, Hunts, SurveyEnds, SurveyCloses, SurveyAt}, proofs.Survey.Woken.bare_after}
+use Rattle.dali_progress.{proofs.Survey.Woken.{lost_after, drew_after, IsByteLow, low_after, all_left}, proofs.Surveying.{IsTakenBut, RollSent, DrawSent}}
+use Rattle.dali_progress.proofs.Surveying.{call_sent, draw_left, roll_sent, draw_sent, draws_short, draws_tabled, AskedAt, asked_sent}
+use Rattle.dali_progress.proofs.Tables.{tabled_left, IsTabledTo, at_tabled}
 
 -- A FRAME OF A ROLL CALL IS SENT, or one after which gear draw, and one frame less is left.
 
@@ -217,18 +216,11 @@ visited_below n r number same is small = subst (λ m. m < MASK24) (sym (ap value
 
 visiting_sought : (s : Stage) (k : Kept) (n : SearchAddress) (gs hs : List Gear) (left : ℕ) (c : Command) → VisitsAt s k n hs left
     → Sends Visiting n k s c → Seeks s gs → IsSoughtBy gs c
-visiting_sought stage.Free k n gs hs left c v is seek = subst (IsSoughtBy gs) (sym is) tt
-visiting_sought (stage.HighSent high) k n gs hs left c v is seek = subst (IsSoughtBy gs) (some_is (SearchMiddle n.middle) c is) tt
-visiting_sought (stage.MiddleSent high middle) k n gs hs left c v is seek = subst (IsSoughtBy gs) (some_is (SearchLow n.low) c is) tt
-visiting_sought (stage.NumberSent r) k n gs hs left c v is seek =
-    subst (IsSoughtBy gs) (some_is QueryShort c is) (r, seek r refl, visited_below n r v.visited.number v.searched v.visited.number_is v.visited.drawn)
-visiting_sought (stage.Unnamed r) k n gs hs left c v is seek =
-    subst (IsSoughtBy gs) (sym is.3) (r, seek r refl, visited_below n r v.visited.number v.searched v.visited.number_is v.visited.drawn)
-visiting_sought (stage.Programmed r a) k n gs hs left c v is seek =
-    subst (IsSoughtBy gs) (some_is QueryShort c is) (r, seek r refl, visited_below n r v.visited.number (sym v.searched) v.visited.number_is v.visited.drawn)
-visiting_sought (stage.Confirmed r a) k n gs hs left c v is seek = subst (IsSoughtBy gs) (some_is Withdraw c is) tt
-visiting_sought (stage.Withdrawn r a) k n gs hs left c v is seek = absurd (cc)
-visiting_sought _ k n gs hs left c v is seek = absurd v.stage_is
+visiting_sought s k n gs hs left c v is seek =
+    visit_by (λ t d. VisitsAt t k n hs left → Seeks t gs → IsSoughtBy gs d) n k hs left (λ w by. tt) (λ high w by. tt) (λ high middle w by. tt)
+    (λ r w by. (r, by r refl, visited_below n r w.visited.number w.searched w.visited.number_is w.visited.drawn))
+    (λ r a small has w by. (r, by r refl, visited_below n r w.visited.number w.searched w.visited.number_is w.visited.drawn))
+    (λ r a w by. (r, by r refl, visited_below n r w.visited.number (sym w.searched) w.visited.number_is w.visited.drawn)) (λ r a w by. tt) s c v is v seek
 
 seeks_drawn : (s : Stage) (gs : List Gear) → Seeks s gs → Seeks s (those_drawn gs)
 seeks_drawn s gs seek r at = seek_drawn gs r (seek r at)
@@ -298,19 +290,12 @@ hunt_tabled before _ s k x n gs numbers left rest c h hunt at is seek next table
 -- the low byte that it sends is one
 visiting_low : (s : Stage) (k : Kept) (n : SearchAddress) (gs : List Gear) (left : ℕ) (c : Command) → VisitsAt s k n gs left → Sends Visiting n k s c
     → IsByteLow c
-visiting_low stage.Free k n gs left c v is = subst IsByteLow (sym is) tt
-visiting_low (stage.HighSent high) k n gs left c v is = subst IsByteLow (some_is (SearchMiddle n.middle) c is) tt
-visiting_low (stage.MiddleSent high middle) k n gs left c v is =
-    subst IsByteLow (some_is (SearchLow n.low) c is)
-    (subst (λ (m : SearchAddress). m.low < 256) (sym v.visited.number_is) (low_byte v.visited.number)) where
+visiting_low s k n gs left c v is =
+    visit_by (λ t d. VisitsAt t k n gs left → IsByteLow d) n k gs left (λ w. tt) (λ high w. tt)
+    (λ high middle w. subst (λ (m : SearchAddress). m.low < 256) (sym w.visited.number_is) (low_byte w.visited.number)) (λ r w. tt)
+    (λ r a small has w. tt) (λ r a w. tt) (λ r a w. tt) s c v is v where
       low_byte : (r : ℕ) → r % 256 < 256
       low_byte r = omega arith
-visiting_low (stage.NumberSent r) k n gs left c v is = subst IsByteLow (some_is QueryShort c is) tt
-visiting_low (stage.Unnamed r) k n gs left c v is = subst IsByteLow (sym is.3) tt
-visiting_low (stage.Programmed r a) k n gs left c v is = subst IsByteLow (some_is QueryShort c is) tt
-visiting_low (stage.Confirmed r a) k n gs left c v is = subst IsByteLow (some_is Withdraw c is) tt
-visiting_low (stage.Withdrawn r a) k n gs left c v is = absurd (cc)
-visiting_low _ k n gs left c v is = absurd v.stage_is
 
 hunt_low : (p : Purpose) (s : Stage) (k : Kept) (x : Ascent) (n : SearchAddress) (gs : List Gear) (left : ℕ) (c : Command) → IsHunt p
     → HuntAt false p s k x n gs left → Sends p n k s c → IsByteLow c
