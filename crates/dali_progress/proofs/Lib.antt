@@ -9,14 +9,10 @@ mod Gives
 mod Along
 mod Drawing
 mod Start
-mod Giving
 mod Session
 mod Playing
 mod Needed
-mod LatePower
-mod Numberless
 mod Another
-mod AnotherTerminates
 mod Accounted
 mod Spared
 mod Census

@@ -31,7 +31,7 @@ use Rattle.dali_progress.{proofs.Both.reserved_begins, proofs.Census.Asked.sendi
 use Rattle.dali_progress.{proofs.Lone.{IsLone, lone_sent}, proofs.Misheard.Stands.{Calm, EndsBy, AreTabledBelow, KnownAt, At, MisheardStands}}
 use Rattle.dali_progress.{proofs.Misheard.Begins.{IsOwn, Keeps, IsNext, first_by, asks_on, hunts_on}, proofs.Misheard.Known.{SentTo, at_sent, known_sent}}
 use Rattle.dali_progress.{proofs.Misheard.Sent.Taken, proofs.Misheard.Visits.turned, proofs.Survey.Goes.{found_sent, acted_so, promise_now, surveyed_now}}
-use Rattle.dali_progress.{proofs.Survey.Goes.IsActedSo, proofs.Survey.Kept.rest_next, proofs.Survey.Queried.{OneShort, IsTrue, IsAtHand}}
+use Rattle.dali_progress.{proofs.Survey.Goes.IsActedSo, proofs.Survey.Visits.rest_next, proofs.Survey.Queried.{OneShort, IsTrue, IsAtHand}}
 use Rattle.dali_progress.{proofs.Survey.Turns.IsUncontradicted}
 
 -- A SURVEY GOES ON, event by event, if gear g is misheard.

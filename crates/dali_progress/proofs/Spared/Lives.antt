@@ -23,7 +23,7 @@ use Rattle.dali_progress.specs.Surveyed.{Step, IsTaken, IsCourse, ArePlain, stag
 use Rattle.dali_progress.proofs.Accounted.{accounted_stays, unreserved, told_keeps}
 use Rattle.dali_progress.proofs.Census.Asked.{Asks, asks_of, self, sending_of}
 use Rattle.dali_progress.proofs.Census.Coming.{IsToCome, IsEnded, Watched, no_reservation, counting_ready, storing_of, unreserved_on, over_ends}
-use Rattle.dali_progress.proofs.{Census.Others.ordered_way, Census.Silent.IsLooked, Census.Silent.watched_looked, Spared.Bytes.IsByteOf}
+use Rattle.dali_progress.{proofs.Census.Course.ordered_way, proofs.Census.Silent.{IsLooked, watched_looked}, proofs.Spared.Bytes.IsByteOf}
 use Rattle.dali_progress.proofs.Spared.{Bytes.IsRead, Bytes.read_plain, Bytes.next_read, Counted.IsCounted, Counted.counted_more, Counted.counted_on}
 
 -- THE LIFE OF A CONTROLLER since it began, by what its machine was told and ordered.

@@ -35,7 +35,7 @@ use Rattle.dali_progress.proofs.Both.{never_eight, not_free, no_tries, addresses
 use Rattle.dali_progress.proofs.{Census.Asked.sending_of, Frames.Seeks, Logged.world_logged, Logged.drawn_now, Logged.kept_now, Logged.block_now}
 use Rattle.dali_progress.proofs.Lone.{IsLone, Moment, IsDueOf, due_of, heard_kept, acted_there, sent_there, lone_acted, lone_sent, acts_by, Rests}
 use Rattle.dali_progress.proofs.{Stands.Sends, Stands.sends_of, Survey.Begins.IsPut, Survey.Begins.IsNext, Survey.Begins.asks_on}
-use Rattle.dali_progress.proofs.Survey.{Drawn.numbered_of, Drawn.drew_apart, Kept.committed, Kept.begins_less, Kept.spared, Kept.spared_few, Kept.survey_slack}
+use Rattle.dali_progress.{proofs.Survey.Drawn.{numbered_of, drew_apart}, proofs.Survey.Visits.{committed, begins_less, spared, spared_few, survey_slack}}
 use Rattle.dali_progress.proofs.Survey.Queried.{OneShort, IsTrue, below_none, IsAtHand, AreOwned, IsPassed, core_self, unseen, unseen_was}
 use Rattle.dali_progress.proofs.Survey.{Sent.SurveySent, Sent.survey_sent, Stands.Begun, Stands.survey_frames, Stands.SurveyAt, Stands.SurveyStands}
 use Rattle.dali_progress.proofs.Survey.{Stands.SurveyEnds, Turns.IsUncontradicted, Visits.turned}
