@@ -88,6 +88,9 @@ IsNext g m (Commit x) gs = Calm g m gs × Keeps g m.kept m.heard m.course m.sile
 IsNext g m (Done e) gs = EndsBy g e m.kept m.heard gs
 IsNext g m (Halt why) gs = ⊥
 
+abbrev pub GoesTo : ℕ → Machine → Order → List Gear → Type 0
+GoesTo g t o gs = IsNext g (machine_ordered t o) o gs
+
 -- ---------------------------------------------------------------- a later frame
 
 rises_untold : (g : ℕ) (s : Stage) (x : Ascent) (n : SearchAddress) (gs : List Gear) → IsUnasked s Hunting → Rises true g s x n gs → Rises false g s x n gs
@@ -128,8 +131,8 @@ untold g PassingOver s k heard c silent gs unasked at = hunts_untold g PassingOv
 untold g _ s k heard c silent gs unasked at = at
 
 pub later_by : (g : ℕ) (t : Machine) (o : Order) (s : Stage) (f : Forward) (gs : List Gear) → MisheardStands true g t gs → o ≡ Put LATER f
-    → stage_of t.trace ≡ s → IsUnasked s t.course.purpose → IsNext g (machine_ordered t o) o gs
-later_by g t o s f gs st is at unasked = subst (λ q. IsNext g (machine_ordered t q) q gs) (sym is)
+    → stage_of t.trace ≡ s → IsUnasked s t.course.purpose → GoesTo g t o gs
+later_by g t o s f gs st is at unasked = subst (λ q. GoesTo g t q gs) (sym is)
     (subst (λ m. IsNext g m (Put LATER f) gs) (sym (later_leaves t f s at unasked)) (record {
       calm = st.calm;
       trace = st.trace;
@@ -139,7 +142,7 @@ later_by g t o s f gs st is at unasked = subst (λ q. IsNext g (machine_ordered 
     }))
 
 pub turns_by : (g : ℕ) (t : Machine) (o : Order) (p : Purpose) (s : Stage) (c : Command) (gs : List Gear) → IsGivenBy t o → MisheardStands true g t gs
-    → t.course.purpose ≡ p → stage_of t.trace ≡ s → turn_of p t.course.number s ≡ Some c → IsNext g (machine_ordered t o) o gs
+    → t.course.purpose ≡ p → stage_of t.trace ≡ s → turn_of p t.course.number s ≡ Some c → GoesTo g t o gs
 turns_by g t o p s c gs by st purpose at turn =
     later_by g t o s (frame_of c) gs st (given.turns t o c by (rw (purpose, at) turn)) at
     (subst (IsUnasked s) (sym purpose) (turn_unasked p t.course.number s c turn))
@@ -148,8 +151,8 @@ turns_by g t o p s c gs by st purpose at turn =
 
 pub first_by : (g : ℕ) (t : Machine) (o : Order) (cs : Course) (gs : List Gear) → Calm g t gs → o ≡ beginning (next_course t) → next_course t ≡ cs
     → cs.way ≡ Surveying → At false g cs.purpose stage.Free t.kept t.heard cs t.silent gs → KnownAt g cs.purpose stage.Free t.kept t.heard cs gs
-    → IsNext g (machine_ordered t o) o gs
-first_by g t o cs gs calm is same way at known = subst (λ q. IsNext g (machine_ordered t q) q gs) (sym is) (record {
+    → GoesTo g t o gs
+first_by g t o cs gs calm is same way at known = subst (λ q. GoesTo g t q gs) (sym is) (record {
   calm = record { there = calm.there; untried = calm.untried; way = subst (λ (d : Course). d.way ≡ Surveying) (sym same) way };
   trace = subst (λ s. IsTrace s []) (sym stage_none) trace_none;
   at = subst (λ s. At false g (next_course t).purpose s t.kept t.heard (next_course t) t.silent gs) (sym stage_none)
@@ -190,12 +193,12 @@ census_on f d y k heard gs one holds unasked (inr later) = inr later
 -- the next short address, or the roll call
 pub asks_or_calls : (g : ℕ) (t : Machine) (o : Order) (c : Course) (f : ℕ) (gs : List Gear) → Calm g t gs → o ≡ beginning (next_course t)
     → next_course t ≡ ask_or_call c (next_asked t.kept f) → c.way ≡ Surveying → c.opened ≡ false → IsCounted g c.tally t.silent 0 gs → f ≤ 64
-    → IsClear t.kept t.heard → IsCensus f c.tally t.kept t.heard gs → OneShort gs → IsTrue t.kept.enrolled gs → IsNext g (machine_ordered t o) o gs
+    → IsClear t.kept t.heard → IsCensus f c.tally t.kept t.heard gs → OneShort gs → IsTrue t.kept.enrolled gs → GoesTo g t o gs
 asks_or_calls g t o c f gs calm is same way unopened counted few clear census one holds =
     go (next_asked t.kept f) same (asked_later t.kept (64 - f) f) (asked_before t.kept (64 - f) f) (asked_within t.kept (64 - f) f) where
       go : (next : Option ℕ) → next_course t ≡ ask_or_call c next → (next ≡ None → (d : ℕ) → f ≤ d → d < f + (64 - f) → is_asked t.kept d ≡ false)
           → ((d : ℕ) → next ≡ Some d → (e : ℕ) → f ≤ e → e < d → is_asked t.kept e ≡ false)
-          → ((d : ℕ) → next ≡ Some d → (f ≤ d) × (d < f + (64 - f))) → IsNext g (machine_ordered t o) o gs
+          → ((d : ℕ) → next ≡ Some d → (f ≤ d) × (d < f + (64 - f))) → GoesTo g t o gs
       go None next none before within =
           first_by g t o (calling_first c) gs calm is next way
           (record {
@@ -216,7 +219,7 @@ asks_or_calls g t o c f gs calm is same way unopened counted few clear census on
           })
 
 pub asks_on : (g : ℕ) (t : Machine) (o : Order) (gs : List Gear) → Calm g t gs → o ≡ beginning (next_course t) → next_course t ≡ goes_on_to t
-    → KeepsAsked g t.kept t.heard t.course t.silent gs → OneShort gs → IsTrue t.kept.enrolled gs → IsNext g (machine_ordered t o) o gs
+    → KeepsAsked g t.kept t.heard t.course t.silent gs → OneShort gs → IsTrue t.kept.enrolled gs → GoesTo g t o gs
 asks_on g t o gs calm is next v one holds =
     asks_or_calls g t o t.course t.course.from gs calm is
     (next ∙ ap (λ b. going_on t.kept b t.course) v.unopened ∙ ap (λ y. going_on_early t.kept y t.course) calm.way) calm.way v.unopened v.counted v.small
@@ -225,9 +228,9 @@ asks_on g t o gs calm is next v one holds =
 -- the block is full: short addresses are asked again, or the close comes
 pub fills : (g : ℕ) (t : Machine) (o : Order) (c : Course) (gs : List Gear) → Calm g t gs → o ≡ beginning (next_course t) → next_course t ≡ full t c
     → c.way ≡ Surveying → IsCounted g c.tally t.silent 0 gs → AreSeen t.kept t.heard gs → AreTaken t.kept t.heard → OneShort gs
-    → IsTrue t.kept.enrolled gs → IsNext g (machine_ordered t o) o gs
+    → IsTrue t.kept.enrolled gs → GoesTo g t o gs
 fills g t o c gs calm is next way counted known filled one holds = go (asks_again t) refl where
-  go : (b : Bool) → asks_again t ≡ b → IsNext g (machine_ordered t o) o gs
+  go : (b : Bool) → asks_again t ≡ b → GoesTo g t o gs
   go true again =
       asks_or_calls g t o (record c { from = 0; opened = false; ascent = ascent_at_first; tally = asked_again c.tally }) 0 gs calm is
       (next ∙ ap (λ b. if b then asking_again t.kept c else closing_by c BlockFull) again) way refl
@@ -252,7 +255,7 @@ bare_opened g gs all k there on other enabled = woken_short (gear_of gs k) (all 
 pub hunts_first : (g : ℕ) (t : Machine) (o : Order) (cs : Course) (gs : List Gear) → Calm g t gs → o ≡ beginning (next_course t)
     → next_course t ≡ hunting_first cs → cs.way ≡ Surveying → cs.opened ≡ true → IsCounted g cs.tally t.silent 0 gs
     → cs.tally.passed.count ≤ cs.tally.calls + cs.tally.draws → AreLow gs → Each gs (λ k y. OpenedBy y) → AreSeen t.kept t.heard gs
-    → IsNext g (machine_ordered t o) o gs
+    → GoesTo g t o gs
 hunts_first g t o cs gs calm is next way opened counted few low all known =
     first_by g t o (hunting_first cs) gs calm is next way
     (record {
@@ -276,7 +279,7 @@ hunts_first g t o cs gs calm is next way opened counted few low all known =
 pub hunts_above : (g : ℕ) (t : Machine) (o : Order) (cs : Course) (v : ℕ) (gs : List Gear) → Calm g t gs → o ≡ beginning (next_course t)
     → next_course t ≡ hunting_above cs → cs.way ≡ Surveying → cs.opened ≡ true → IsCounted g cs.tally t.silent 0 gs
     → (is_wanted (gear_of gs g) ≡ true → cs.tally.passed.count ≤ cs.tally.calls + cs.tally.draws) → AreLow gs → AreSought g 1 gs → AreBare g gs
-    → v < MASK24 → IsPast cs.ascent v gs → AreSeen t.kept t.heard gs → IsNext g (machine_ordered t o) o gs
+    → v < MASK24 → IsPast cs.ascent v gs → AreSeen t.kept t.heard gs → GoesTo g t o gs
 hunts_above g t o cs v gs calm is next way opened counted few low sought_are bare drawn past known =
     first_by g t o (hunting (record cs { ascent = above cs.ascent v })) gs calm is
     (next ∙ ap (λ q. hunting (record cs { ascent = gone_on_from q cs.ascent })) past.reached) way
@@ -299,7 +302,7 @@ hunts_above g t o cs v gs calm is next way opened counted few low sought_are bar
 
 -- if a visit succeeded
 pub hunts_on : (g : ℕ) (t : Machine) (o : Order) (gs : List Gear) → Calm g t gs → o ≡ beginning (next_course t) → next_course t ≡ goes_on_to t
-    → KeepsPast g t.kept t.heard t.course t.silent gs → IsNext g (machine_ordered t o) o gs
+    → KeepsPast g t.kept t.heard t.course t.silent gs → GoesTo g t o gs
 hunts_on g t o gs calm is next (v, known) =
     hunts_above g t o (record t.course { tally = served t.course.tally }) v.visited gs calm is
     (next ∙ ap (λ b. going_on t.kept b t.course) v.opened_is ∙ ap (λ y. searching_on y t.course) calm.way) calm.way v.opened_is

@@ -29,10 +29,10 @@ use Rattle.dali_progress.proofs.Along.{RunsBy, runs_first, acted_to, frame_to, s
 use Rattle.dali_progress.proofs.Both.{never_eight, with_kept, put_no_enrolment, not_free, no_tries, IsKnown, lawful_now, no_enrolment_now, no_enrolment_yet}
 use Rattle.dali_progress.{proofs.Both.reserved_begins, proofs.Census.Asked.sending_of, proofs.Frames.Seeks, proofs.Logged.{same_some, world_logged}}
 use Rattle.dali_progress.{proofs.Lone.{IsLone, lone_sent}, proofs.Misheard.Stands.{Calm, EndsBy, AreTabledBelow, KnownAt, At, MisheardStands}}
-use Rattle.dali_progress.{proofs.Misheard.Begins.{IsOwn, Keeps, IsNext, first_by, asks_on, hunts_on}, proofs.Misheard.Known.{SentTo, at_sent, known_sent}}
-use Rattle.dali_progress.{proofs.Misheard.Sent.Taken, proofs.Misheard.Visits.turned, proofs.Survey.Goes.{found_sent, acted_so, promise_now, surveyed_now}}
-use Rattle.dali_progress.{proofs.Survey.Goes.IsActedSo, proofs.Survey.Visits.rest_next, proofs.Survey.Queried.{OneShort, IsTrue, IsAtHand}}
-use Rattle.dali_progress.{proofs.Survey.Turns.IsUncontradicted}
+use Rattle.dali_progress.{proofs.Misheard.Begins.{IsOwn, Keeps, IsNext, first_by, asks_on, hunts_on, GoesTo}, proofs.Misheard.Known.{SentTo, at_sent}}
+use Rattle.dali_progress.{proofs.Misheard.Known.known_sent, proofs.Misheard.Sent.Taken, proofs.Misheard.Visits.turned, proofs.Survey.Goes.found_sent}
+use Rattle.dali_progress.{proofs.Survey.Goes.{acted_so, promise_now, surveyed_now, IsActedSo}, proofs.Survey.Visits.rest_next, proofs.Survey.Queried.OneShort}
+use Rattle.dali_progress.{proofs.Survey.Queried.{IsTrue, IsAtHand}, proofs.Survey.Turns.IsUncontradicted}
 
 -- A SURVEY GOES ON, event by event, if gear g is misheard.
 
@@ -40,7 +40,7 @@ use Rattle.dali_progress.{proofs.Survey.Turns.IsUncontradicted}
 
 committed : (g : ℕ) (m : Machine) (x : Record) (o : Order) (gs : List Gear) → Calm g m gs → Keeps g m.kept m.heard m.course m.silent x gs → m.trace ≡ []
     → m.last ≡ Some (Commit x) → IsGivenBy (with_kept m x) o → OneShort gs → IsTrue (with_kept m x).kept.enrolled gs
-    → IsNext g (machine_ordered (with_kept m x) o) o gs
+    → GoesTo g (with_kept m x) o gs
 committed g m (Reserve a r) o gs calm v free last by one holds =
     first_by g (with_kept m (Reserve a r)) o (visiting m.course r) gs calm
     (reserved_begins m a r o calm.untried free last by) (rest_next m (Reserve a r) free last) calm.way
@@ -69,19 +69,19 @@ committed g m (Enrol b r) o gs calm (inr past) free last by one holds =
       ),
     )
 committed g m (Enrol b r) o gs calm (inl asked) free last by one holds = go o by (by.followed.enrolled b r last) where
-  goes : (q : Order) → IsGivenBy (with_kept m (Enrol b r)) q → IsOwn m.kept b r → IsNext g (machine_ordered (with_kept m (Enrol b r)) q) q gs
+  goes : (q : Order) → IsGivenBy (with_kept m (Enrol b r)) q → IsOwn m.kept b r → GoesTo g (with_kept m (Enrol b r)) q gs
   goes q by own =
       asks_on g (with_kept m (Enrol b r)) q gs calm (given.enrolled (with_kept m (Enrol b r)) q b r by last free own)
       (rest_next m (Enrol b r) free last) asked.0 one holds
 
   go : (q : Order) → IsGivenBy (with_kept m (Enrol b r)) q → AfterEnrolled (with_kept m (Enrol b r)) b r q
-      → IsNext g (machine_ordered (with_kept m (Enrol b r)) q) q gs
+      → GoesTo g (with_kept m (Enrol b r)) q gs
   go (Put p f) by own = goes (Put p f) by own
   go (Commit x) by (a, has, is) = released asked.1 where
     released : ((m.course.tally.passed.count ≡ 0) × AreTabledBelow m.course.from (m.kept.enrolled ++ (b, r) ∷ []) gs) ⊎ IsOwn m.kept b r
-        → IsNext g (machine_ordered (with_kept m (Enrol b r)) (Commit x)) (Commit x) gs
+        → GoesTo g (with_kept m (Enrol b r)) (Commit x) gs
     released (inl first) =
-        subst (λ y. IsNext g (machine_ordered (with_kept m (Enrol b r)) (Commit y)) (Commit y) gs) (sym is)
+        subst (λ y. GoesTo g (with_kept m (Enrol b r)) (Commit y) gs) (sym is)
         (calm, (asked.0, first))
     released (inr own) = goes (Commit x) by own
   go (Done e) by never = absurd never
@@ -125,7 +125,7 @@ Holds g m last told gs = HoldsBy (IsUnbegun g) (λ n p f h gs. Hears g n f h gs)
 -- ---------------------------------------------------------------- the controller acts
 
 first_acts : (g : ℕ) (m : Machine) (o : Order) (gs : List Gear) → m.last ≡ None → IsGivenBy (machine_surveying m) o → OneShort gs
-    → IsTrue m.kept.enrolled gs → IsUnbegun g m gs → IsNext g (machine_ordered (machine_surveying m) o) o gs
+    → IsTrue m.kept.enrolled gs → IsUnbegun g m gs → GoesTo g (machine_surveying m) o gs
 first_acts g m o gs last by one holds v =
     asks_on g (machine_surveying m) o gs (record { there = v.there; untried = v.tries; way = refl })
     (given.begins_free (machine_surveying m) o by v.free (no_enrolment_yet m.last last) (never_eight m.tries v.tries))
@@ -188,7 +188,7 @@ misheard_acts g s c i o r good here whole run by = (
   holds_next (IsUnbegun g) (λ n p f h gs. Hears g n f h gs) (Next g) (machine_after m i o) o w.gear (
     acts_from (IsUnbegun g) (λ n p f h gs. Hears g n f h gs) (Next g) true
         (λ j n. IsTrue n.kept.enrolled w.gear × ((b : Answer) → j ≡ input.Heard b → IsUncontradicted n) × IsWhole (machine_ordered n o))
-        (λ l t n. IsNext g (machine_ordered n o) o w.gear) w s.queue c m i o
+        (λ l t n. GoesTo g n o w.gear) w s.queue c m i o
         (λ last given known v. first_acts g m o w.gear last given so.hand.one so.hand.holds v)
         (λ p f h is given known hears. turned g (machine_heard m (Some f) h) o w.gear given hears.stands so.hand (known.1 h refl) known.2
         (put_no_enrolment p f m.last is) hears.running)

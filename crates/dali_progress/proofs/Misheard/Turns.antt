@@ -20,8 +20,8 @@ use Rattle.dali_controller.proofs.Given as given
 use Rattle.dali_events.specs.Wanted.{gear_of}
 use Rattle.dali_events.proofs.Search.Wanted as wanted
 use Rattle.dali_progress.proofs.Misheard.Gear as gear
-use Rattle.dali_progress.{proofs.Both.{never_eight, has_address}, proofs.Misheard.Begins.{KeepsAsked, IsOwn, Keeps, IsNext, first_by, asks_on, one_most}}
-use Rattle.dali_progress.{proofs.Misheard.Begins.hunts_first, proofs.Misheard.Gear.{AreKnown, HasOne}, proofs.Misheard.Stands.{IsSpent, Asks, Calls, Draws}}
+use Rattle.dali_progress.{proofs.Both.{never_eight, has_address}, proofs.Misheard.Begins.{KeepsAsked, IsOwn, Keeps, first_by, asks_on, one_most, hunts_first}}
+use Rattle.dali_progress.{proofs.Misheard.Begins.GoesTo, proofs.Misheard.Gear.{AreKnown, HasOne}, proofs.Misheard.Stands.{IsSpent, Asks, Calls, Draws}}
 use Rattle.dali_progress.proofs.Misheard.Stands.{AreTabledBelow, AreSeen, IsCensus, Census, KnownAt, EndsBy, MisheardStands}
 use Rattle.dali_progress.{proofs.Survey.Begins.{begins_whole, all_taken}, proofs.Survey.Hunting.nothing_open, proofs.Survey.Queried.{Holds, one_gear, IsAtHand}}
 use Rattle.dali_progress.{proofs.Survey.Stands.AreTaken, proofs.Survey.Turns.{IsUncontradicted, silent_next, heard_next}, proofs.Surveying.roll_first}
@@ -96,7 +96,7 @@ own_by k b n gs kept known one small drew fresh a has =
 told_turns : (g : ℕ) (t : Machine) (o : Order) (a b n : ℕ) (gs : List Gear) → IsGivenBy t o → MisheardStands true g t gs → IsAtHand t.kept gs
     → IsUncontradicted t
     → t.course.purpose ≡ Asking a → stage_of t.trace ≡ stage.Spelled b (Some n) → Asks g t.course t.silent gs
-    → Census a (stage.Spelled b (Some n)) t.kept t.heard t.course gs → IsNext g (machine_ordered t o) o gs
+    → Census a (stage.Spelled b (Some n)) t.kept t.heard t.course gs → GoesTo g t o gs
 told_turns g t o a b n gs by st hand agreed purpose is v w = go (nat_lt n MASK24) refl where
   who : ℕ
   who = w.ask.asked.1.0
@@ -111,7 +111,7 @@ told_turns g t o a b n gs by st hand agreed purpose is v w = go (nat_lt n MASK24
   same i has = ap (λ j. (gear_of gs j).random) (one_gear gs hand.one i w.ask.asked.1.0 a has holds) ∙ sym number
 
   goes : (q : Order) → q ≡ beginning (next_course t)
-      → ((i : ℕ) → Holds gs i a → (gear_of gs i).random < MASK24 → Has t.kept.enrolled (a, (gear_of gs i).random)) → IsNext g (machine_ordered t q) q gs
+      → ((i : ℕ) → Holds gs i a → (gear_of gs i).random < MASK24 → Has t.kept.enrolled (a, (gear_of gs i).random)) → GoesTo g t q gs
   goes q begins here =
       asks_on g t q gs st.calm begins (ap (begins_at t) is)
       (next_asks g a (stage.Spelled b (Some n)) t.kept t.heard t.course t.silent gs v w w.ask.clear here) hand.one hand.holds
@@ -148,17 +148,17 @@ told_turns g t o a b n gs by st hand agreed purpose is v w = go (nat_lt n MASK24
           (subst (λ c. c < 64) (sym w.ask.asked.0) w.ask.small) small fresh.0),
     )
 
-  follows : (q : Order) → IsGivenBy t q → n < MASK24 → AfterFinding t b n q → IsNext g (machine_ordered t q) q gs
+  follows : (q : Order) → IsGivenBy t q → n < MASK24 → AfterFinding t b n q → GoesTo g t q gs
   follows (Put p f) by small has =
       goes (Put p f) (given.spelled_known t (Put p f) b n by is (sought_is small) hand.kept.enrolled has)
       (λ i told drew. subst (λ m. Has t.kept.enrolled (a, m)) (sym (same i told)) (subst (λ c. Has t.kept.enrolled (c, n)) w.ask.asked.0 has))
   follows (Commit x) by small is_enrol =
       let may : IsFresh t.kept.enrolled (b, n) = subst (λ y. MayAdd t.kept y) is_enrol by.ordered.allowed.may in
-      subst (λ y. IsNext g (machine_ordered t (Commit y)) (Commit y) gs) (sym is_enrol) (st.calm, enrols small may)
+      subst (λ y. GoesTo g t (Commit y) gs) (sym is_enrol) (st.calm, enrols small may)
   follows (Done e) by small never = absurd never
   follows (Halt why) by small contradicts = absurd (agreed (Resolved b n) (found_at g t gs (stage.Spelled b (Some n)) st is) contradicts)
 
-  go : (s : Bool) → nat_lt n MASK24 ≡ s → IsNext g (machine_ordered t o) o gs
+  go : (s : Bool) → nat_lt n MASK24 ≡ s → GoesTo g t o gs
   go true less =
       let small : n < MASK24 = grind (arith, nat_tests, less) in
       follows o by small (by.followed.told b n is (sought_is small))
@@ -171,7 +171,7 @@ pub census_turns : (g : ℕ) (t : Machine) (o : Order) (a : ℕ) (s : Stage) (gs
     → IsUncontradicted t
     → IsNoEnrolment t.last → t.course.purpose ≡ Asking a → stage_of t.trace ≡ s → (s ≡ stage.Free → ⊥) → Asks g t.course t.silent gs
     → Census a s t.kept t.heard t.course gs → IsWhole (machine_ordered t o) → turn_of (Asking a) t.course.number s ≡ None
-    → IsNext g (machine_ordered t o) o gs
+    → GoesTo g t o gs
 census_turns g t o a stage.Free gs by st hand agreed last purpose is running v w whole over = absurd (running refl)
 census_turns g t o a (stage.HighAsked b None) gs by st hand agreed last purpose is running v w whole over = go (t.asked == 0) refl where
   begins : o ≡ beginning (next_course t)
@@ -182,7 +182,7 @@ census_turns g t o a (stage.HighAsked b None) gs by st hand agreed last purpose 
   next : next_course t ≡ asked_once t (t.asked == 0)
   next = ap (begins_at t) is
 
-  go : (e : Bool) → (t.asked == 0) ≡ e → IsNext g (machine_ordered t o) o gs
+  go : (e : Bool) → (t.asked == 0) ≡ e → GoesTo g t o gs
   go true none =
       asks_on g t o gs st.calm begins (next ∙ ap (asked_once t) none)
       (next_asks g a (stage.HighAsked b None) t.kept t.heard t.course t.silent gs v w w.ask.clear (λ i has drew. absurd (w.ask.asked.1 i has)))
@@ -216,7 +216,7 @@ heard_few y calls passed unblocked = go (nat_lt y.calls 3) refl (nat_lt 0 y.pass
 blocked_turns : (g : ℕ) (t : Machine) (o : Order) (r : SearchAddress) (h : Answer) (room : ℕ) (gs : List Gear) → MisheardStands true g t gs
     → Calls g (stage.Hunted r (Some h) room) t.course t.silent gs → AreSeen t.kept t.heard gs × IsSpent g t.course.tally t.kept t.heard gs
     → o ≡ beginning (next_course t) → next_course t ≡ blocked t
-    → is_blocked t.course.tally ≡ true → IsNext g (machine_ordered t o) o gs
+    → is_blocked t.course.tally ≡ true → GoesTo g t o gs
 blocked_turns g t o r h room gs st v known begins next is_blocked_now = go (nat_lt t.course.tally.draws 3) refl (has_open t) refl where
   passed : 0 < t.course.tally.passed.count
   passed = some (wanted.both_pass (not (nat_lt t.course.tally.calls 3)) (nat_lt 0 t.course.tally.passed.count) is_blocked_now).1 where
@@ -226,11 +226,11 @@ blocked_turns g t o r h room gs st v known begins next is_blocked_now = go (nat_
   by : (b : Bool) → may_draw t ≡ b → next_course t ≡ (if b then opening_at_last t.course else closing_by t.course GaveUp)
   by b e = next ∙ ap (λ q. if q then opening_at_last t.course else closing_by t.course GaveUp) e
 
-  closes : may_draw t ≡ false → EndsBy g GaveUp t.kept t.heard gs → IsNext g (machine_ordered t o) o gs
+  closes : may_draw t ≡ false → EndsBy g GaveUp t.kept t.heard gs → GoesTo g t o gs
   closes none well =
       first_by g t o (closing_by t.course GaveUp) gs st.calm begins (by false none) st.calm.way (record { stage_is = tt; well = well }) known.0
 
-  go : (a : Bool) → nat_lt t.course.tally.draws 3 ≡ a → (b : Bool) → has_open t ≡ b → IsNext g (machine_ordered t o) o gs
+  go : (a : Bool) → nat_lt t.course.tally.draws 3 ≡ a → (b : Bool) → has_open t ≡ b → GoesTo g t o gs
   go true few true free =
       first_by g t o (opening_at_last t.course) gs st.calm begins (by true (rw (few, free) refl)) st.calm.way
       (record {
@@ -263,7 +263,7 @@ blocked_turns g t o r h room gs st v known begins next is_blocked_now = go (nat_
 
 answered_call : (g : ℕ) (t : Machine) (o : Order) (r : SearchAddress) (h : Answer) (room : ℕ) (gs : List Gear) → IsGivenBy t o → MisheardStands true g t gs
     → t.course.purpose ≡ Calling → stage_of t.trace ≡ stage.Hunted r (Some h) room → Calls g (stage.Hunted r (Some h) room) t.course t.silent gs
-    → call_turn (Some h) room ≡ None → IsNext g (machine_ordered t o) o gs
+    → call_turn (Some h) room ≡ None → GoesTo g t o gs
 answered_call g t o r h room gs by st purpose is v over = go (is_yes h) refl where
   known : AreSeen t.kept t.heard gs × IsSpent g t.course.tally t.kept t.heard gs
   known = known_as g t gs Calling st purpose
@@ -271,7 +271,7 @@ answered_call g t o r h room gs by st purpose is v over = go (is_yes h) refl whe
   begins : o ≡ beginning (next_course t)
   begins = by.followed.called r h room is purpose over
 
-  silent_one : is_yes h ≡ false → (b : Bool) → t.course.tally.is_silent ≡ b → IsNext g (machine_ordered t o) o gs
+  silent_one : is_yes h ≡ false → (b : Bool) → t.course.tally.is_silent ≡ b → GoesTo g t o gs
   silent_one quiet_so true twice =
       first_by g t o (closing_by t.course AllFound) gs st.calm begins
       (silent_next t r h room true is purpose quiet_so twice) st.calm.way
@@ -285,7 +285,7 @@ answered_call g t o r h room gs by st purpose is v over = go (is_yes h) refl whe
         roll = roll_first gs;
       }) known
 
-  heard_one : is_yes h ≡ true → (b : Bool) → is_blocked t.course.tally ≡ b → IsNext g (machine_ordered t o) o gs
+  heard_one : is_yes h ≡ true → (b : Bool) → is_blocked t.course.tally ≡ b → GoesTo g t o gs
   heard_one heard_so true stuck =
       blocked_turns g t o r h room gs st v known begins
       (heard_next t r h room true is purpose heard_so stuck) stuck
@@ -304,13 +304,13 @@ answered_call g t o r h room gs by st purpose is v over = go (is_yes h) refl whe
       more : (n m : ℕ) → n ≤ m → n ≤ m + 1
       more n m less = omega (arith, less)
 
-  go : (b : Bool) → is_yes h ≡ b → IsNext g (machine_ordered t o) o gs
+  go : (b : Bool) → is_yes h ≡ b → GoesTo g t o gs
   go false quiet_so = silent_one quiet_so t.course.tally.is_silent refl
   go true heard_so = heard_one heard_so (is_blocked t.course.tally) refl
 
 pub calling_turns : (g : ℕ) (t : Machine) (o : Order) (s : Stage) (gs : List Gear) → IsGivenBy t o → MisheardStands true g t gs → t.course.purpose ≡ Calling
     → stage_of t.trace ≡ s → (s ≡ stage.Free → ⊥) → Calls g s t.course t.silent gs → turn_of Calling t.course.number s ≡ None
-    → IsNext g (machine_ordered t o) o gs
+    → GoesTo g t o gs
 calling_turns g t o s gs by st purpose is running v over =
     let at = roll_over s t.course.number gs v.roll over running in
     answered_call g t o at.0 at.1 at.2 gs by st purpose (is ∙ at.3) (subst (λ q. Calls g q t.course t.silent gs) at.3 v) at.4
@@ -319,7 +319,7 @@ calling_turns g t o s gs by st purpose is running v over =
 
 pub drawn_turns : (g : ℕ) (t : Machine) (o : Order) (p : Purpose) (gs : List Gear) → IsGivenBy t o → MisheardStands true g t gs → IsNoEnrolment t.last
     → stage_of t.trace ≡ stage.Opened → Draws p stage.Opened t.course t.silent gs → AreSeen t.kept t.heard gs
-    → IsNext g (machine_ordered t o) o gs
+    → GoesTo g t o gs
 drawn_turns g t o p gs by st last is v known =
     hunts_first g t o t.course gs st.calm
     (given.begins_after t o stage.Opened by is tt (found_at g t gs stage.Opened st is) last (never_eight t.tries st.calm.untried))

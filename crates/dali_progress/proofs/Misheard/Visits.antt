@@ -27,7 +27,7 @@ use Rattle.dali_events.proofs.Search.Wanted as wanted
 use Rattle.dali_progress.proofs.Misheard.Climbing as climbing
 use Rattle.dali_progress.proofs.Misheard.Stands as stands
 use Rattle.dali_progress.{specs.Misheard.AreServedBut, proofs.Accounted.open_is, proofs.Both.{never_eight, close_ends}, proofs.Frames.value_sought}
-use Rattle.dali_progress.proofs.Misheard.Begins.{KeepsPast, IsOwn, IsNext, later_by, turns_by, first_by, fills, hunts_above, hunts_on}
+use Rattle.dali_progress.proofs.Misheard.Begins.{KeepsPast, IsOwn, IsNext, later_by, turns_by, first_by, fills, hunts_above, hunts_on, GoesTo}
 use Rattle.dali_progress.proofs.Misheard.Stands.{Calm, AreSeen, IsCounted, Rises, IsReached, IsOfOne, Visits, Hunts, At, Draws, MisheardStands, IsCountedFor}
 use Rattle.dali_progress.{proofs.Misheard.Gear.{AreSought, AreBare, HaveDrawn, HasOne}, proofs.Misheard.Turns.{found_at, known_as, own_by, census_turns}}
 use Rattle.dali_progress.{proofs.Misheard.Turns.{calling_turns, drawn_turns}, proofs.Survey.Begins.{clear_reserved, nobody_elses, begins_whole, all_taken}}
@@ -106,12 +106,12 @@ record IsOver (g : ℕ) (t : Machine) (gs : List Gear) : Type 0 where
 
 -- no gear was found: those that never drew do, or no address is open
 vain_over : (g : ℕ) (t : Machine) (o : Order) (h : Answer) (r : SearchAddress) (room : ℕ) (gs : List Gear) → o ≡ question (next_course t) r room
-    → next_course t ≡ undrawn t (hunted t.course h) → t.course.ascent.found ≡ 0 → IsOver g t gs → IsNext g (machine_ordered t o) o gs
+    → next_course t ≡ undrawn t (hunted t.course h) → t.course.ascent.found ≡ 0 → IsOver g t gs → GoesTo g t o gs
 vain_over g t o h r room gs asks next none v = go (has_open t) refl (nat_lt t.course.tally.draws 3) refl where
   calm : Calm g t gs
   calm = v.stands.calm
 
-  go : (a : Bool) → has_open t ≡ a → (b : Bool) → nat_lt t.course.tally.draws 3 ≡ b → IsNext g (machine_ordered t o) o gs
+  go : (a : Bool) → has_open t ≡ a → (b : Bool) → nat_lt t.course.tally.draws 3 ≡ b → GoesTo g t o gs
   go true free true few =
       first_by g t o (drawing (hunted t.course h)) gs calm
       (begins_by t o (drawing (hunted t.course h)) r room asks (vain_next t h true true next free few) refl)
@@ -144,7 +144,7 @@ vain_over g t o h r room gs asks next none v = go (has_open t) refl (nat_lt t.co
 
 -- some gear was: the roll is called
 found_over : (g : ℕ) (t : Machine) (o : Order) (h : Answer) (r : SearchAddress) (room : ℕ) (gs : List Gear) → o ≡ question (next_course t) r room
-    → next_course t ≡ calling (hunted t.course h) → IsOver g t gs → IsNext g (machine_ordered t o) o gs
+    → next_course t ≡ calling (hunted t.course h) → IsOver g t gs → GoesTo g t o gs
 found_over g t o h r room gs asks next v =
     first_by g t o (calling (hunted t.course h)) gs v.stands.calm (begins_by t o (calling (hunted t.course h)) r room asks next refl) next
     v.stands.calm.way
@@ -156,12 +156,12 @@ found_over g t o h r room gs asks next v =
     (v.known, inl (λ passed drew. served_by g t.course.ascent.found gs v.sought_are (v.counted.drawn drew) v.nobody))
 
 hunt_over : (g : ℕ) (t : Machine) (o : Order) (h : Answer) (r : SearchAddress) (room : ℕ) (gs : List Gear) → o ≡ question (next_course t) r room
-    → next_course t ≡ nobody_left t (hunted t.course h) → IsOver g t gs → IsNext g (machine_ordered t o) o gs
+    → next_course t ≡ nobody_left t (hunted t.course h) → IsOver g t gs → GoesTo g t o gs
 hunt_over g t o h r room gs asks next v = go ((hunted t.course h).ascent.found == 0) refl where
   by : (b : Bool) → ((hunted t.course h).ascent.found == 0) ≡ b → next_course t ≡ (if b then undrawn t (hunted t.course h) else calling (hunted t.course h))
   by b is = next ∙ ap (λ y. if y then undrawn t (hunted t.course h) else calling (hunted t.course h)) is
 
-  go : (b : Bool) → ((hunted t.course h).ascent.found == 0) ≡ b → IsNext g (machine_ordered t o) o gs
+  go : (b : Bool) → ((hunted t.course h).ascent.found == 0) ≡ b → GoesTo g t o gs
   go true is =
       vain_over g t o h r room gs asks (by true is)
       (sym (found_same t.course.ascent (is_yes h)) ∙ wanted.same_number (hunted t.course h).ascent.found 0 is) v
@@ -174,8 +174,8 @@ goes_on : (g : ℕ) (t : Machine) (o : Order) (h : Answer) (r : SearchAddress) (
     → t.course.purpose ≡ Hunting → stage_of t.trace ≡ stage.Hunted r (Some h) room → next_course t ≡ hunting (hunted t.course h)
     → o ≡ Put LATER (frame_of (byte_to_send (hunting (hunted t.course h)).number r))
     → Hunts false g Hunting (stage.Hunted r (Some h) room) (hunting (hunted t.course h)) t.silent gs
-    → AreSeen t.kept t.heard gs → IsNext g (machine_ordered t o) o gs
-goes_on g t o h r room gs st purpose is next sends v known = subst (λ q. IsNext g (machine_ordered t q) q gs) (sym sends)
+    → AreSeen t.kept t.heard gs → GoesTo g t o gs
+goes_on g t o h r room gs st purpose is next sends v known = subst (λ q. GoesTo g t q gs) (sym sends)
     (subst (λ m. IsNext g m (Put LATER (frame_of c)) gs) (sym (later_asked t h r room (frame_of c) purpose is next)) (record {
       calm = st.calm;
       trace = st.trace;
@@ -187,7 +187,7 @@ goes_on g t o h r room gs st purpose is next sends v known = subst (λ q. IsNext
 
 answered_turns : (g : ℕ) (t : Machine) (o : Order) (r : SearchAddress) (h : Answer) (room : ℕ) (gs : List Gear) → IsGivenBy t o
     → MisheardStands true g t gs → IsAtHand t.kept gs → t.course.purpose ≡ Hunting → stage_of t.trace ≡ stage.Hunted r (Some h) room
-    → Hunts true g Hunting (stage.Hunted r (Some h) room) t.course t.silent gs → IsNext g (machine_ordered t o) o gs
+    → Hunts true g Hunting (stage.Hunted r (Some h) room) t.course t.silent gs → GoesTo g t o gs
 answered_turns g t o r h room gs by st hand purpose is v = go (leads_to (ascended t.course.ascent (is_yes h))) refl where
   known : AreSeen t.kept t.heard gs
   known = known_as g t gs Hunting st purpose
@@ -217,7 +217,7 @@ answered_turns g t o r h room gs by st hand purpose is v = go (leads_to (ascende
   sought_are = subst (λ n. AreSought g n gs) (sym (found_same t.course.ascent (is_yes h))) v.sought_are
 
   again : (b : Bool) → nat_lt (bytes_to_send (hunting (hunted t.course h)).number r) room ≡ b
-      → leads_to (ascended t.course.ascent (is_yes h)) ≡ Again → IsNext g (machine_ordered t o) o gs
+      → leads_to (ascended t.course.ascent (is_yes h)) ≡ Again → GoesTo g t o gs
   again true some e =
       goes_on g t o h r room gs st purpose is (next Again e)
       (asked_where t o h r room true asks (next Again e) some)
@@ -243,7 +243,7 @@ answered_turns g t o r h room gs by st hand purpose is v = go (leads_to (ascende
         at = record { is = ascent; knows = knows; running = e; number = refl; bare = p.bare; stage_is = tt };
       }) known
 
-  go : (s : Step) → leads_to (ascended t.course.ascent (is_yes h)) ≡ s → IsNext g (machine_ordered t o) o gs
+  go : (s : Step) → leads_to (ascended t.course.ascent (is_yes h)) ≡ s → GoesTo g t o gs
   go Again e = again (nat_lt (bytes_to_send (hunting (hunted t.course h)).number r) room) refl e
   go (Found m) e =
       let there = climbing.found_is (wants gs) (ascended t.course.ascent (is_yes h)) m knows e in
@@ -278,7 +278,7 @@ answered_turns g t o r h room gs by st hand purpose is v = go (leads_to (ascende
 
 hunting_turns : (g : ℕ) (t : Machine) (o : Order) (s : Stage) (gs : List Gear) → IsGivenBy t o → MisheardStands true g t gs → IsAtHand t.kept gs
     → t.course.purpose ≡ Hunting → stage_of t.trace ≡ s → (s ≡ stage.Free → ⊥) → Hunts true g Hunting s t.course t.silent gs
-    → turn_of Hunting t.course.number s ≡ None → IsNext g (machine_ordered t o) o gs
+    → turn_of Hunting t.course.number s ≡ None → GoesTo g t o gs
 hunting_turns g t o stage.Free gs by st hand purpose is running v over = absurd (running refl)
 hunting_turns g t o (stage.HighSent high) gs by st hand purpose is running v over = absurd (cc)
 hunting_turns g t o (stage.LowSent high low) gs by st hand purpose is running v over = absurd (cc)
@@ -306,7 +306,7 @@ failed_turns : (g : ℕ) (t : Machine) (o : Order) (s : Stage) (gs : List Gear) 
     → (w : Visits g Visiting s t.course.ascent t.course.number gs)
     → IsReached t.course.ascent w.visited gs × AreBare g gs × IsOfOne g w.visited gs → AreSeen t.kept t.heard gs
     → o ≡ beginning (next_course t) → next_course t ≡ silenced t
-    → IsNext g (machine_ordered t o) o gs
+    → GoesTo g t o gs
 failed_turns g t o s gs st apart v failed found w at known begins next = go (is_failed t.course.tally.failed (value_of t.course.number)) refl where
   y : Tally
   y = t.course.tally
@@ -349,7 +349,7 @@ failed_turns g t o s gs st apart v failed found w at known begins next = go (is_
       subst (λ q. t.silent + one_if (not q) ≤ 2 * t.course.tally.passed.count + 1 + 20 * t.course.tally.draws + 1)
       (ap (is_failed t.course.tally.failed) (sym own) ∙ e) counted.quiet
 
-  go : (b : Bool) → is_failed t.course.tally.failed (value_of t.course.number) ≡ b → IsNext g (machine_ordered t o) o gs
+  go : (b : Bool) → is_failed t.course.tally.failed (value_of t.course.number) ≡ b → GoesTo g t o gs
   go true twice =
       first_by g t o (passing_over t.course) gs st.calm begins (by true twice) st.calm.way
       (record {
@@ -416,9 +416,9 @@ failed_turns g t o s gs st apart v failed found w at known begins next = go (is_
 -- no address can be given: gear draw new numbers, or the block is full
 ungiven_turns : (g : ℕ) (t : Machine) (o : Order) (r : SearchAddress) (gs : List Gear) → MisheardStands true g t gs
     → Hunts true g Visiting (stage.Unnamed r) t.course t.silent gs → stage_of t.trace ≡ stage.Unnamed r → o ≡ beginning (next_course t)
-    → AreTaken t.kept t.heard → AreSeen t.kept t.heard gs → IsAtHand t.kept gs → IsNext g (machine_ordered t o) o gs
+    → AreTaken t.kept t.heard → AreSeen t.kept t.heard gs → IsAtHand t.kept gs → GoesTo g t o gs
 ungiven_turns g t o r gs st v is begins filled known hand = go (may_draw t) refl where
-  go : (b : Bool) → may_draw t ≡ b → IsNext g (machine_ordered t o) o gs
+  go : (b : Bool) → may_draw t ≡ b → GoesTo g t o gs
   go true may =
       first_by g t o (opening_anew t.course) gs st.calm begins (ungiven_next t r true is st.calm.way may) st.calm.way
       (record {
@@ -431,7 +431,7 @@ ungiven_turns g t o r gs st v is begins filled known hand = go (may_draw t) refl
 -- an address that is open is not marked
 unnamed_turns : (g : ℕ) (t : Machine) (o : Order) (r : SearchAddress) (gs : List Gear) → IsGivenBy t o → MisheardStands true g t gs
     → IsAtHand t.kept gs → t.course.purpose ≡ Visiting → stage_of t.trace ≡ stage.Unnamed r
-    → Hunts true g Visiting (stage.Unnamed r) t.course t.silent gs → IsNext g (machine_ordered t o) o gs
+    → Hunts true g Visiting (stage.Unnamed r) t.course t.silent gs → GoesTo g t o gs
 unnamed_turns g t o r gs by st hand purpose is v =
     go (address_for t.kept.reserved (value_of r)) (found_address t.kept.reserved (value_of r)) (least_open t.kept t.heard) refl
     (subst (λ y. AfterMaskOn y t (course_by t o) r o) st.calm.way (by.ordered.unnamed r is)) where
@@ -445,15 +445,15 @@ unnamed_turns g t o r gs by st hand purpose is v =
       value = sym (ap value_of (w.stage_is.2 ∙ w.number) ∙ value_sought w.visited)
 
       go : (given_to : Option ℕ) → MatchOption given_to (HasRandom t.kept.reserved (value_of r) → ⊥) (λ a. Has t.kept.reserved (a, value_of r))
-          → (free : Option ℕ) → least_open t.kept t.heard ≡ free → AfterMaskBy t r given_to free o → IsNext g (machine_ordered t o) o gs
+          → (free : Option ℕ) → least_open t.kept t.heard ≡ free → AfterMaskBy t r given_to free o → GoesTo g t o gs
       go (Some a) has free least mask = choose (is_withheld t a (value_of r)) refl where
-        choose : (b : Bool) → is_withheld t a (value_of r) ≡ b → IsNext g (machine_ordered t o) o gs
+        choose : (b : Bool) → is_withheld t a (value_of r) ≡ b → GoesTo g t o gs
         choose false free =
             later_by g t o (stage.Unnamed r) (frame_of (Program (Some a))) gs st (subst (λ b. AfterReserved t a b o) free mask) is tt
         choose true withheld =
             absurd (let never : true ≡ false = sym (withheld_anothers t t.course.way a (value_of r) withheld)
             ∙ nobody_elses t.kept t.heard gs hand.holds hand.owned known.1 a (value_of r) has in cc)
-      go None none (Some a) least mask = subst (λ q. IsNext g (machine_ordered t q) q gs) (sym mask) (
+      go None none (Some a) least mask = subst (λ q. GoesTo g t q gs) (sym mask) (
         st.calm,
         record {
           opened_is = v.opened_is;
@@ -475,7 +475,7 @@ unnamed_turns g t o r gs by st hand purpose is v =
 withdrawn_turns : (g : ℕ) (t : Machine) (o : Order) (r : SearchAddress) (a : ℕ) (gs : List Gear) → IsGivenBy t o → MisheardStands true g t gs
     → IsAtHand t.kept gs → IsUncontradicted t → t.course.purpose ≡ Visiting → stage_of t.trace ≡ stage.Withdrawn r a
     → Hunts true g Visiting (stage.Withdrawn r a) t.course t.silent gs
-    → IsNext g (machine_ordered t o) o gs
+    → GoesTo g t o gs
 withdrawn_turns g t o r a gs by st hand agreed purpose is v = go o by (by.ordered.found r a is) where
   w : Visits g Visiting (stage.Withdrawn r a) t.course.ascent t.course.number gs
   w = v.at
@@ -504,18 +504,18 @@ withdrawn_turns g t o r a gs by st hand agreed purpose is v = go o by (by.ordere
       own_by t.kept a (value_of r) gs hand.kept (known_as g t gs Visiting st purpose).0 (subst (λ m. HasOne m a gs) value w.stage_is.2)
       w.stage_is.4 (subst (λ m. m < MASK24) value w.drawn) fresh.0
 
-  go : (q : Order) → IsGivenBy t q → AfterFinding t a (value_of r) q → IsNext g (machine_ordered t q) q gs
+  go : (q : Order) → IsGivenBy t q → AfterFinding t a (value_of r) q → GoesTo g t q gs
   go (Put p f) by has =
       hunts_on g t (Put p f) gs st.calm (given.withdrawn_known t (Put p f) r a by is hand.kept.enrolled has) (ap (begins_at t) is) keeps
   go (Commit x) by has =
       let may : IsFresh t.kept.enrolled (a, value_of r) = subst (λ y. MayAdd t.kept y) has by.ordered.allowed.may in
-      subst (λ y. IsNext g (machine_ordered t (Commit y)) (Commit y) gs) (sym has) (st.calm, inr (keeps, own may))
+      subst (λ y. GoesTo g t (Commit y) gs) (sym has) (st.calm, inr (keeps, own may))
   go (Done e) by has = absurd has
   go (Halt why) by has = absurd (agreed (Queried a (value_of r)) (found_at g t gs (stage.Withdrawn r a) st is) has)
 
 visiting_turns : (g : ℕ) (t : Machine) (o : Order) (s : Stage) (gs : List Gear) → IsGivenBy t o → MisheardStands true g t gs → IsAtHand t.kept gs
     → IsUncontradicted t → IsNoEnrolment t.last → t.course.purpose ≡ Visiting → stage_of t.trace ≡ s → (s ≡ stage.Free → ⊥)
-    → Hunts true g Visiting s t.course t.silent gs → turn_of Visiting t.course.number s ≡ None → IsNext g (machine_ordered t o) o gs
+    → Hunts true g Visiting s t.course t.silent gs → turn_of Visiting t.course.number s ≡ None → GoesTo g t o gs
 visiting_turns g t o stage.Free gs by st hand agreed last purpose is running v over = absurd (running refl)
 visiting_turns g t o (stage.HighSent high) gs by st hand agreed last purpose is running v over = absurd (cc)
 visiting_turns g t o (stage.MiddleSent high middle) gs by st hand agreed last purpose is running v over = absurd (cc)
@@ -538,7 +538,7 @@ visiting_turns g t o _ gs by st hand agreed last purpose is running v over = abs
 
 passing_turns : (g : ℕ) (t : Machine) (o : Order) (s : Stage) (gs : List Gear) → IsGivenBy t o → MisheardStands true g t gs → IsNoEnrolment t.last
     → t.course.purpose ≡ PassingOver → stage_of t.trace ≡ s → (s ≡ stage.Free → ⊥) → Hunts true g PassingOver s t.course t.silent gs
-    → IsWhole (machine_ordered t o) → turn_of PassingOver t.course.number s ≡ None → IsNext g (machine_ordered t o) o gs
+    → IsWhole (machine_ordered t o) → turn_of PassingOver t.course.number s ≡ None → GoesTo g t o gs
 passing_turns g t o stage.Free gs by st last purpose is running v whole over = absurd (running refl)
 passing_turns g t o (stage.HighSent high) gs by st last purpose is running v whole over = absurd (cc)
 passing_turns g t o (stage.MiddleSent high middle) gs by st last purpose is running v whole over = absurd (cc)
@@ -563,16 +563,16 @@ passing_turns g t o _ gs by st last purpose is running v whole over = absurd v.a
 
 -- after a frame that was heard
 pub turned : (g : ℕ) (t : Machine) (o : Order) (gs : List Gear) → IsGivenBy t o → MisheardStands true g t gs → IsAtHand t.kept gs → IsUncontradicted t
-    → IsWhole (machine_ordered t o) → IsNoEnrolment t.last → (stage_of t.trace ≡ stage.Free → ⊥) → IsNext g (machine_ordered t o) o gs
+    → IsWhole (machine_ordered t o) → IsNoEnrolment t.last → (stage_of t.trace ≡ stage.Free → ⊥) → GoesTo g t o gs
 turned g t o gs by st hand agreed whole last running = turn (turn_of t.course.purpose t.course.number (stage_of t.trace)) refl where
   drew : (p : Purpose) → IsDraws p → t.course.purpose ≡ p → Draws p (stage_of t.trace) t.course t.silent gs → AreSeen t.kept t.heard gs
-      → turn_of p t.course.number (stage_of t.trace) ≡ None → IsNext g (machine_ordered t o) o gs
+      → turn_of p t.course.number (stage_of t.trace) ≡ None → GoesTo g t o gs
   drew p draws purpose at known over =
       let opened = draw_over p (stage_of t.trace) t.course.number gs draws at.draw over running in
       drawn_turns g t o p gs by st last opened (subst (λ s. Draws p s t.course t.silent gs) opened at) known
 
   go : (p : Purpose) → t.course.purpose ≡ p → At true g p (stage_of t.trace) t.kept t.heard t.course t.silent gs
-      → turn_of p t.course.number (stage_of t.trace) ≡ None → IsNext g (machine_ordered t o) o gs
+      → turn_of p t.course.number (stage_of t.trace) ≡ None → GoesTo g t o gs
   go (Asking a) purpose at over =
       census_turns g t o a (stage_of t.trace) gs by st hand agreed last purpose refl running at (known_as g t gs (Asking a) st purpose) whole over
   go Calling purpose at over = calling_turns g t o (stage_of t.trace) gs by st purpose refl running at over
@@ -582,11 +582,11 @@ turned g t o gs by st hand agreed whole last running = turn (turn_of t.course.pu
   go Visiting purpose at over = visiting_turns g t o (stage_of t.trace) gs by st hand agreed last purpose refl running at over
   go PassingOver purpose at over = passing_turns g t o (stage_of t.trace) gs by st last purpose refl running at whole over
   go (Closing e) purpose at over =
-      subst (λ q. IsNext g (machine_ordered t q) q gs)
+      subst (λ q. GoesTo g t q gs)
       (sym (close_ends t o e (stage_of t.trace) by purpose refl running at.stage_is st.trace.finding st.calm.untried)) at.well
   go Probing purpose at over = absurd at
   go (Resolving a) purpose at over = absurd at
 
-  turn : (q : Option Command) → turn_of t.course.purpose t.course.number (stage_of t.trace) ≡ q → IsNext g (machine_ordered t o) o gs
+  turn : (q : Option Command) → turn_of t.course.purpose t.course.number (stage_of t.trace) ≡ q → GoesTo g t o gs
   turn (Some c) e = turns_by g t o t.course.purpose (stage_of t.trace) c gs by st refl refl e
   turn None over = go t.course.purpose refl st.at over

@@ -107,6 +107,9 @@ IsNext start m (Done e) gs left =
     SurveyEnds e m.kept m.heard gs × AreTabled (unseen start.gear) m.kept.enrolled gs × (IsSettled start.kept → IsSettled m.kept)
 IsNext start m (Halt why) gs left = ⊥
 
+abbrev pub GoesTo : Begun → Machine → Order → List Gear → ℕ → Type 0
+GoesTo start t o gs left = IsNext start (machine_ordered t o) o gs left
+
 -- ---------------------------------------------------------------- a later frame, and a first one
 
 -- if no answer in a hunt stands last, the machine that has acted stands as it did when it was told
@@ -149,8 +152,8 @@ untold Visiting s k heard asked c start gs left unasked at = hunts_untold Visiti
 untold _ s k heard asked c start gs left unasked at = at
 
 pub later_by : (start : Begun) (t : Machine) (o : Order) (s : Stage) (f : Forward) (gs : List Gear) (left : ℕ) → SurveyStands true start t gs left
-    → o ≡ Put LATER f → stage_of t.trace ≡ s → IsUnasked s t.course.purpose → IsNext start (machine_ordered t o) o gs left
-later_by start t o s f gs left st is at unasked = subst (λ q. IsNext start (machine_ordered t q) q gs left) (sym is)
+    → o ≡ Put LATER f → stage_of t.trace ≡ s → IsUnasked s t.course.purpose → GoesTo start t o gs left
+later_by start t o s f gs left st is at unasked = subst (λ q. GoesTo start t q gs left) (sym is)
     (subst (λ m. IsNext start m (Put LATER f) gs left) (sym (later_leaves t f s at unasked)) (
       record {
         calm = st.calm;
@@ -163,16 +166,16 @@ later_by start t o s f gs left st is at unasked = subst (λ q. IsNext start (mac
 
 pub turns_by : (start : Begun) (t : Machine) (o : Order) (p : Purpose) (s : Stage) (c : Command) (gs : List Gear) (left : ℕ) → IsGivenBy t o
     → SurveyStands true start t gs left → t.course.purpose ≡ p → stage_of t.trace ≡ s → turn_of p t.course.number s ≡ Some c
-    → IsNext start (machine_ordered t o) o gs left
+    → GoesTo start t o gs left
 turns_by start t o p s c gs left g st purpose at turn =
     later_by start t o s (frame_of c) gs left st (given.turns t o c g (rw (purpose, at) turn)) at
     (subst (IsUnasked s) (sym purpose) (turn_unasked p t.course.number s c turn))
 
 pub first_by : (start : Begun) (t : Machine) (o : Order) (cs : Course) (gs : List Gear) (left : ℕ) → Calm t → o ≡ beginning (next_course t)
     → next_course t ≡ cs → IsSmooth cs → SurveyAt false cs.purpose stage.Free t.kept t.heard (asked_by cs.opened t.asked) cs start gs left
-    → IsNext start (machine_ordered t o) o gs left
+    → GoesTo start t o gs left
 first_by start t o cs gs left calm is same smooth at =
-    subst (λ q. IsNext start (machine_ordered t q) q gs left) (sym is) (
+    subst (λ q. GoesTo start t q gs left) (sym is) (
       record {
         calm = record { untried = calm.untried; loud = calm.loud; smooth = subst IsSmooth (sym same) smooth };
         trace = subst (λ s. IsTrace s []) (sym stage_none) trace_none;
@@ -333,7 +336,7 @@ pub asks_on : (start : Begun) (t : Machine) (o : Order) (f : ℕ) (gs : List Gea
     → (IsSettled start.kept → IsSettled t.kept)
     → IsClear t.kept t.heard → OneShort gs → IsTrue t.kept.enrolled gs → SameCore start.gear gs
     → TabledBelow f start.gear t.kept.enrolled gs
-    → 3 * (64 - f) + survey_frames gs ≤ left → IsNext start (machine_ordered t o) o gs left
+    → 3 * (64 - f) + survey_frames gs ≤ left → GoesTo start t o gs left
 asks_on start t o f gs left calm is next uncalled asked from few settled clear one holds same tabled enough =
     go (next_asked t.kept f) course (asked_later t.kept (64 - f) f) (asked_before t.kept (64 - f) f) (asked_within t.kept (64 - f) f) where
       course : next_course t ≡ ask_or_call t.course (next_asked t.kept f)
@@ -344,7 +347,7 @@ asks_on start t o f gs left calm is next uncalled asked from few settled clear o
       go : (p : Option ℕ) → next_course t ≡ ask_or_call t.course p
           → (p ≡ None → (c : ℕ) → f ≤ c → c < f + (64 - f) → is_asked t.kept c ≡ false)
           → ((d : ℕ) → p ≡ Some d → (c : ℕ) → f ≤ c → c < d → is_asked t.kept c ≡ false)
-          → ((d : ℕ) → p ≡ Some d → (f ≤ d) × (d < f + (64 - f))) → IsNext start (machine_ordered t o) o gs left
+          → ((d : ℕ) → p ≡ Some d → (f ≤ d) × (d < f + (64 - f))) → GoesTo start t o gs left
       go (Some d) at none before within =
           let there = within d refl in
           let low : f ≤ d = there.0 in
@@ -395,7 +398,7 @@ pub hunts_by : (start : Begun) (t : Machine) (o : Order) (cs : Course) (rest : �
     → next_course t ≡ hunting cs → IsSmooth cs → IsHunted cs gs → IsCalledFor Hunting cs.ascent gs → IsClear t.kept t.heard
     → (IsSettled start.kept → IsSettled t.kept) → Rises false stage.Free cs.ascent (sought (asked_next cs.ascent)) (those_drawn gs) rest
     → AreTabled (unseen start.gear) t.kept.enrolled (those_drawn gs)
-    → rest + frames_after Hunting cs.ascent gs ≤ left → IsNext start (machine_ordered t o) o gs left
+    → rest + frames_after Hunting cs.ascent gs ≤ left → GoesTo start t o gs left
 hunts_by start t o cs rest gs left calm is next smooth hunted called clear settled rises tabled frames =
     first_by start t o (hunting cs) gs left calm is next smooth
     (record {
@@ -418,7 +421,7 @@ pub hunts_first : (start : Begun) (t : Machine) (o : Order) (cs : Course) (gs : 
     → AreTabled (unseen start.gear) t.kept.enrolled (those_drawn gs)
     → 106 * count_by is_wanted (those_drawn gs) + 10
     + hunted_after (count_by is_wanted (those_drawn gs)) (count_by is_lost gs) ≤ left
-    → IsNext start (machine_ordered t o) o gs left
+    → GoesTo start t o gs left
 hunts_first start t o cs gs left calm is next smooth hunted some clear settled ready unnamed tabled frames =
     hunts_by start t o (record cs { ascent = ascent_at_first }) (106 * count_by is_wanted (those_drawn gs) + 10) gs left calm is next
     smooth hunted (λ none. some) clear settled
@@ -435,7 +438,7 @@ pub hunts_on : (start : Begun) (t : Machine) (o : Order) (r : ℕ) (gs : List Ge
     → (IsSettled start.kept → IsSettled t.kept) → Above t.course.ascent r (those_drawn gs) → IsOpened (those_drawn gs)
     → NoneNamed (those_drawn gs) → AreTabled (unseen start.gear) t.kept.enrolled (those_drawn gs)
     → 106 * count_by is_wanted (those_drawn gs) + 32 + called_after (count_by is_lost gs) ≤ left
-    → IsNext start (machine_ordered t o) o gs left
+    → GoesTo start t o gs left
 hunts_on start t o r gs left calm is next hunted clear settled up ready unnamed tabled frames =
     hunts_by start t o served_above (106 * count_by is_wanted (those_drawn gs) + 32) gs left calm is
     (next ∙ ap (λ b. going_on t.kept b t.course) hunted.opened_is ∙ ap (λ y. searching_on y t.course) calm.smooth.way

@@ -26,8 +26,8 @@ use Rattle.dali_progress.specs.{Ends.AreTabled, Rounds.IsSettled}
 use Rattle.dali_progress.{proofs.Both.{never_eight, visits_first}, proofs.Frames.value_sought, proofs.Stands.search_frames, proofs.Survey.Stands.Calm}
 use Rattle.dali_progress.proofs.Survey.Stands.{IsHunted, Begun, IsCalledFor, Draws, called_after, hunted_after, roll_frames, frames_after, Rises, Hunts}
 use Rattle.dali_progress.{proofs.Survey.Stands.{IsSmooth, SurveyStands}, proofs.Survey.Begins.{IsNext, first_by, hunts_by, hunts_first, hunted_some}}
-use Rattle.dali_progress.{proofs.Survey.Begins.{called_roll, all_taken}, proofs.Survey.Drawn.{those_drawn, is_undrawn, is_lost, bare_split, drawn_tabled}}
-use Rattle.dali_progress.{proofs.Survey.Drawn.{tabled_drawn, kept_at, drawn_length, undrawn_random}, proofs.Survey.Queried.unseen}
+use Rattle.dali_progress.{proofs.Survey.Begins.{called_roll, all_taken, GoesTo}, proofs.Survey.Drawn.{those_drawn, is_undrawn, is_lost, bare_split}}
+use Rattle.dali_progress.{proofs.Survey.Drawn.{drawn_tabled, tabled_drawn, kept_at, drawn_length, undrawn_random}, proofs.Survey.Queried.unseen}
 use Rattle.dali_progress.proofs.Survey.Rising.{bytes_same, Answered, answered_rise, rises_new, rises_in, IsReachedAt, rise_found, rise_nobody}
 use Rattle.dali_progress.{proofs.Survey.Turns.found_at, proofs.Survey.Woken.{none_bare, opened_lost, drawn_is, drawn_none_named}, proofs.Surveying.NoneDrawn}
 use Rattle.dali_progress.proofs.Surveying.{draw_left, roll_first, IsClear}
@@ -44,7 +44,7 @@ drawn_frames (suc n) zero bare left same none there enough = omega (arith, same,
 
 pub drawn_turns : (start : Begun) (t : Machine) (o : Order) (gs : List Gear) (left : ℕ) → IsGivenBy t o → SurveyStands true start t gs left
     → IsNoEnrolment t.last → stage_of t.trace ≡ stage.Opened → Draws stage.Opened t.kept t.heard t.course start gs left
-    → IsNext start (machine_ordered t o) o gs left
+    → GoesTo start t o gs left
 drawn_turns start t o gs left g st last is v =
     hunts_first start t o t.course gs left st.calm
     (given.begins_after t o stage.Opened g is tt (found_at start t gs left stage.Opened st is) last (never_eight t.tries st.calm.untried))
@@ -144,7 +144,7 @@ vain_next t h a b next free few =
 -- no gear was found: those that never drew do, or no address is open
 vain_over : (start : Begun) (t : Machine) (o : Order) (h : Answer) (r : SearchAddress) (room : ℕ) (gs : List Gear) (left : ℕ) → Calm t
     → o ≡ question (next_course t) r room → next_course t ≡ undrawn t (hunted t.course h) → t.course.ascent.found ≡ 0 → IsOver start t h gs left
-    → IsNext start (machine_ordered t o) o gs left
+    → GoesTo start t o gs left
 vain_over start t o h r room gs left calm asks next none v = go (has_open t) refl where
   whole_table : AreTabled (unseen start.gear) t.kept.enrolled gs
   whole_table = drawn_tabled (unseen start.gear) t.kept.enrolled gs v.tabled
@@ -170,7 +170,7 @@ vain_over start t o h r room gs left calm asks next none v = go (has_open t) ref
   draws : nat_lt t.course.tally.draws 3 ≡ true
   draws = ap (λ n. nat_lt n 3) undrawn_yet
 
-  go : (b : Bool) → has_open t ≡ b → IsNext start (machine_ordered t o) o gs left
+  go : (b : Bool) → has_open t ≡ b → GoesTo start t o gs left
   go true is =
       first_by start t o (drawing (hunted t.course h)) gs left calm (begins_by t o (drawing (hunted t.course h)) r room asks drawn refl) drawn
       v.smooth
@@ -211,7 +211,7 @@ vain_over start t o h r room gs left calm asks next none v = go (has_open t) ref
 -- some gear was: the roll is called
 found_over : (start : Begun) (t : Machine) (o : Order) (h : Answer) (r : SearchAddress) (room : ℕ) (gs : List Gear) (left : ℕ) → Calm t
     → o ≡ question (next_course t) r room → next_course t ≡ calling (hunted t.course h) → 0 < t.course.ascent.found → IsOver start t h gs left
-    → IsNext start (machine_ordered t o) o gs left
+    → GoesTo start t o gs left
 found_over start t o h r room gs left calm asks next some v =
     first_by start t o (calling (hunted t.course h)) gs left calm (begins_by t o (calling (hunted t.course h)) r room asks next refl) next
     v.smooth
@@ -241,7 +241,7 @@ found_over start t o h r room gs left calm asks next some v =
 
 hunt_over : (start : Begun) (t : Machine) (o : Order) (h : Answer) (r : SearchAddress) (room : ℕ) (gs : List Gear) (left : ℕ) → Calm t
     → o ≡ question (next_course t) r room → next_course t ≡ nobody_left t (hunted t.course h) → IsOver start t h gs left
-    → IsNext start (machine_ordered t o) o gs left
+    → GoesTo start t o gs left
 hunt_over start t o h r room gs left calm asks next v = go ((hunted t.course h).ascent.found == 0) refl where
   same : (hunted t.course h).ascent.found ≡ t.course.ascent.found
   same = found_same t.course.ascent (is_yes h)
@@ -252,7 +252,7 @@ hunt_over start t o h r room gs left calm asks next v = go ((hunted t.course h).
   some : (n : ℕ) → (n == 0) ≡ false → 0 < n
   some n e = grind (arith, nat_tests, e)
 
-  go : (b : Bool) → ((hunted t.course h).ascent.found == 0) ≡ b → IsNext start (machine_ordered t o) o gs left
+  go : (b : Bool) → ((hunted t.course h).ascent.found == 0) ≡ b → GoesTo start t o gs left
   go true is = vain_over start t o h r room gs left calm asks (by true is) (sym same ∙ wanted.same_number (hunted t.course h).ascent.found 0 is) v
   go false is = found_over start t o h r room gs left calm asks (by false is) (subst (λ n. 0 < n) same (some (hunted t.course h).ascent.found is)) v
 
@@ -272,8 +272,8 @@ goes_on : (start : Begun) (t : Machine) (o : Order) (h : Answer) (r : SearchAddr
     → t.course.purpose ≡ Hunting → stage_of t.trace ≡ stage.Hunted r (Some h) room → next_course t ≡ hunting (hunted t.course h)
     → o ≡ Put LATER (frame_of (byte_to_send (hunting (hunted t.course h)).number r))
     → Hunts false Hunting (stage.Hunted r (Some h) room) t.kept t.heard (hunting (hunted t.course h)) start gs left
-    → IsNext start (machine_ordered t o) o gs left
-goes_on start t o h r room gs left st purpose is next sends v = subst (λ q. IsNext start (machine_ordered t q) q gs left) (sym sends)
+    → GoesTo start t o gs left
+goes_on start t o h r room gs left st purpose is next sends v = subst (λ q. GoesTo start t q gs left) (sym sends)
     (subst (λ m. IsNext start m (Put LATER (frame_of c)) gs left) (sym (later_asked t h r room (frame_of c) purpose is next)) (
       record {
         calm = st.calm;
@@ -296,7 +296,7 @@ asked_where t o h r room b asks next fits =
 pub hunting_turns : (start : Begun) (t : Machine) (o : Order) (s : Stage) (gs : List Gear) (left : ℕ) → IsGivenBy t o → SurveyStands true start t gs left
     → t.course.purpose ≡ Hunting → stage_of t.trace ≡ s → (s ≡ stage.Free → ⊥)
     → Hunts true Hunting s t.kept t.heard t.course start gs left → turn_of Hunting t.course.number s ≡ None
-    → IsNext start (machine_ordered t o) o gs left
+    → GoesTo start t o gs left
 hunting_turns start t o stage.Free gs left g st purpose is running v over = absurd (running refl)
 hunting_turns start t o (stage.HighSent high) gs left g st purpose is running v over = absurd (cc)
 hunting_turns start t o (stage.LowSent high low) gs left g st purpose is running v over = absurd (cc)
@@ -348,7 +348,7 @@ hunting_turns start t o (stage.Hunted r (Some h) room) gs left g st purpose is r
   frames = plain v.rest (frames_after Hunting t.course.ascent gs) v.behind v.behind_is v.frames
 
   again : (b : Bool) → questions.has_room (asking_next p.before (asked_next t.course.ascent)) (asked_next (ascended t.course.ascent (is_yes h))) ≡ b
-      → leads_to (ascended t.course.ascent (is_yes h)) ≡ Again → IsNext start (machine_ordered t o) o gs left
+      → leads_to (ascended t.course.ascent (is_yes h)) ≡ Again → GoesTo start t o gs left
   again true some e =
       goes_on start t o h r room gs left st purpose is (next Again e)
       (asked_where t o h r room true asks (next Again e) (fits ∙ some))
@@ -371,7 +371,7 @@ hunting_turns start t o (stage.Hunted r (Some h) room) gs left g st purpose is r
       (rises_new now asking (those_drawn gs) v.rest answered e none) v.tabled
       (subst (λ n. v.rest + n ≤ left) after frames)
 
-  go : (s : Step) → leads_to (ascended t.course.ascent (is_yes h)) ≡ s → IsNext start (machine_ordered t o) o gs left
+  go : (s : Step) → leads_to (ascended t.course.ascent (is_yes h)) ≡ s → GoesTo start t o gs left
   go Again e = again (questions.has_room asking (asked_next now)) refl e
   go (Found m) e =
       let there : IsReachedAt now m (those_drawn gs) v.rest = rise_found now asking (those_drawn gs) v.rest m answered e in

@@ -15,20 +15,20 @@ use Rattle.dali_controller.{specs.Next.{full, ungiven}, specs.Orders.{machine_or
 use Rattle.dali_controller.{specs.Whole.IsWhole, specs.declared.purpose.Purpose.Purpose, specs.declared.purpose.Purpose.TheVariants.{Opening, Probing, Hunting}}
 use Rattle.dali_controller.specs.declared.purpose.Purpose.TheVariants.{Visiting, Resolving, Closing, Calling, Drawing, PassingOver, Asking as Counting}
 use Rattle.dali_controller.{specs.declared.way.Way.Way, specs.declared.way.Way.TheVariants.{Fresh, Surveying}, proofs.Given.{IsGivenBy, IsNoEnrolment}}
-use Rattle.dali_progress.{specs.Rounds.IsSettled, specs.Ends.AreTabled, proofs.Both.{never_eight, entry_last, with_kept, no_enrolment_now, visits_first}}
-use Rattle.dali_progress.{proofs.Both.{frames_reserved, reserved_begins, enrolled_begins, drawn_number, close_ends, entry_twice}, proofs.Frames.value_sought}
-use Rattle.dali_progress.{proofs.Stands.{search_frames, VisitFrames, Visits, Leaves}, proofs.Survey.Stands.{Calm, Begun, survey_frames, called_after, Hunts}}
-use Rattle.dali_progress.{proofs.Survey.Stands.{SurveyAt, SurveyStands, Draws}, proofs.Survey.Begins.{EnrolsCounted, ReleasesCounted, EnrolsHunted}}
-use Rattle.dali_progress.proofs.Survey.Begins.{ReservesHunted, SurveyCommits, IsNext, first_by, asked_none, asks_on, hunts_on, clear_reserved, Above, later_by}
-use Rattle.dali_progress.{proofs.Survey.Begins.{turns_by, all_taken, nobody_elses}, proofs.Survey.Drawn.{those_drawn, is_lost, bare_split, drawn_tabled}}
-use Rattle.dali_progress.{proofs.Survey.Queried.{OneShort, IsTrue, unseen, IsAtHand}, proofs.Survey.Hunting.{never_full, hunting_turns, drawn_turns}}
-use Rattle.dali_progress.{proofs.Survey.Turns.{IsUncontradicted, found_at, census_turns, calling_turns}, proofs.Tables.tabled_over, proofs.Accounted.open_is}
-use Rattle.dali_progress.{proofs.Surveying.draw_over}
 use Rattle.dali_special.{specs.Command.frame_of, specs.declared.command.Command.Command, specs.declared.command.Command.TheVariants.Program}
 use Rattle.dali_events.specs.Wanted.{is_wanted, wants, is_bare}
 use Rattle.dali_script.specs.declared.stage.Stage.TheVariants as stage
 use Rattle.dali_controller.proofs.Given as given
 use Rattle.dali_events.proofs.Search.Wanted as wanted
+use Rattle.dali_progress.{specs.Rounds.IsSettled, specs.Ends.AreTabled, proofs.Both.{never_eight, entry_last, with_kept, no_enrolment_now, visits_first}}
+use Rattle.dali_progress.{proofs.Both.{frames_reserved, reserved_begins, enrolled_begins, drawn_number, close_ends, entry_twice}, proofs.Frames.value_sought}
+use Rattle.dali_progress.{proofs.Stands.{search_frames, VisitFrames, Visits, Leaves}, proofs.Survey.Stands.{Calm, Begun, survey_frames, called_after, Hunts}}
+use Rattle.dali_progress.{proofs.Survey.Stands.{SurveyAt, SurveyStands, Draws}, proofs.Survey.Begins.{EnrolsCounted, ReleasesCounted, EnrolsHunted}}
+use Rattle.dali_progress.proofs.Survey.Begins.{ReservesHunted, SurveyCommits, first_by, asked_none, asks_on, hunts_on, clear_reserved, Above, later_by}
+use Rattle.dali_progress.{proofs.Survey.Begins.{turns_by, all_taken, nobody_elses, GoesTo}, proofs.Survey.Drawn.{those_drawn, is_lost, bare_split}}
+use Rattle.dali_progress.{proofs.Survey.Drawn.drawn_tabled, proofs.Survey.Queried.{OneShort, IsTrue, unseen, IsAtHand}, proofs.Survey.Hunting.never_full}
+use Rattle.dali_progress.{proofs.Survey.Hunting.{hunting_turns, drawn_turns}, proofs.Survey.Turns.{IsUncontradicted, found_at, census_turns, calling_turns}}
+use Rattle.dali_progress.{proofs.Tables.tabled_over, proofs.Accounted.open_is, proofs.Surveying.draw_over}
 
 -- A RECORD OF A SURVEY IS KEPT, and the next transaction begins.
 
@@ -66,10 +66,10 @@ rest_next m x free last =
 -- it is enrolled: what else is reserved for it is released, or the next short address is asked
 counted_next : (start : Begun) (m : Machine) (a r : ℕ) (o : Order) (gs : List Gear) (left : ℕ) → Calm m → EnrolsCounted start m a r gs left → m.trace ≡ []
     → m.last ≡ Some (Commit (Enrol a r)) → IsGivenBy (with_kept m (Enrol a r)) o → OneShort gs → IsTrue (m.kept.enrolled ++ (a, r) ∷ []) gs
-    → IsNext start (machine_ordered (with_kept m (Enrol a r)) o) o gs left × (survey_slack (Some o) None + 1 ≤ 2)
+    → GoesTo start (with_kept m (Enrol a r)) o gs left × (survey_slack (Some o) None + 1 ≤ 2)
 counted_next start m a r o gs left calm v free last g one holds = go o g (g.followed.enrolled a r last) where
   goes : (q : Order) → IsGivenBy (with_kept m (Enrol a r)) q → ((c : ℕ) → Has m.kept.reserved (c, r) → c ≡ a)
-      → IsNext start (machine_ordered (with_kept m (Enrol a r)) q) q gs left
+      → GoesTo start (with_kept m (Enrol a r)) q gs left
   goes q g own =
       asks_on start (with_kept m (Enrol a r)) q (a + 1) gs left calm
       (given.enrolled (with_kept m (Enrol a r)) q a r g last free own)
@@ -78,10 +78,10 @@ counted_next start m a r o gs left calm v free last g one holds = go o g (g.foll
       v.tabled (counted_count a (survey_frames gs) left v.small v.frames)
 
   go : (q : Order) → IsGivenBy (with_kept m (Enrol a r)) q → AfterEnrolled (with_kept m (Enrol a r)) a r q
-      → IsNext start (machine_ordered (with_kept m (Enrol a r)) q) q gs left × (survey_slack (Some q) None + 1 ≤ 2)
+      → GoesTo start (with_kept m (Enrol a r)) q gs left × (survey_slack (Some q) None + 1 ≤ 2)
   go (Put p f) g own = (goes (Put p f) g own, let few = spared_few p in omega (arith, few))
   go (Commit x) g (c, has, is) =
-      subst (λ y. IsNext start (machine_ordered (with_kept m (Enrol a r)) (Commit y)) (Commit y) gs left
+      subst (λ y. GoesTo start (with_kept m (Enrol a r)) (Commit y) gs left
       × (survey_slack (Some (Commit y)) None + 1 ≤ 2)) (sym is) (
         (
           calm,
@@ -113,7 +113,7 @@ released_begins m c r o calm free last g =
 
 released_next : (start : Begun) (m : Machine) (c r a : ℕ) (o : Order) (gs : List Gear) (left : ℕ) → Calm m → ReleasesCounted start m a gs left → m.trace ≡ []
     → m.last ≡ Some (Commit (Release c r)) → IsGivenBy (with_kept m (Release c r)) o → OneShort gs → IsTrue m.kept.enrolled gs
-    → IsNext start (machine_ordered (with_kept m (Release c r)) o) o gs left
+    → GoesTo start (with_kept m (Release c r)) o gs left
 released_next start m c r a o gs left calm v free last g one holds =
     asks_on start (with_kept m (Release c r)) o (a + 1) gs left calm
     (released_begins m c r o calm free last g)
@@ -126,7 +126,7 @@ released_next start m c r a o gs left calm v free last g one holds =
 
 hunted_next : (start : Begun) (m : Machine) (b r : ℕ) (o : Order) (gs : List Gear) (left : ℕ) → Calm m → EnrolsHunted start m b r gs left → m.trace ≡ []
     → m.last ≡ Some (Commit (Enrol b r)) → IsMap m.kept.reserved → IsGivenBy (with_kept m (Enrol b r)) o
-    → IsNext start (machine_ordered (with_kept m (Enrol b r)) o) o gs left
+    → GoesTo start (with_kept m (Enrol b r)) o gs left
 hunted_next start m b r o gs left calm v free last map g =
     hunts_on start (with_kept m (Enrol b r)) o r gs left
     calm (enrolled_begins m b r o v.reserved free last map g)
@@ -145,7 +145,7 @@ hunted_next start m b r o gs left calm v free last map g =
         (sym (same_member (λ (q : Assignment). q.1) m.kept.reserved x (b, r) map.random_once has v.reserved number)) (has_last m.kept.enrolled (b, r))
 
 reserved_next : (start : Begun) (m : Machine) (a r : ℕ) (o : Order) (gs : List Gear) (left : ℕ) → Calm m → ReservesHunted start m a r gs left → m.trace ≡ []
-    → m.last ≡ Some (Commit (Reserve a r)) → IsGivenBy (with_kept m (Reserve a r)) o → IsNext start (machine_ordered (with_kept m (Reserve a r)) o) o gs left
+    → m.last ≡ Some (Commit (Reserve a r)) → IsGivenBy (with_kept m (Reserve a r)) o → GoesTo start (with_kept m (Reserve a r)) o gs left
 reserved_next start m a r o gs left calm v free last g =
     first_by start (with_kept m (Reserve a r)) o (visiting m.course r) gs left calm
     (reserved_begins m a r o calm.untried free last g) (rest_next m (Reserve a r) free last)
@@ -183,7 +183,7 @@ reserved_next start m a r o gs left calm v free last g =
 -- what is to come of its order, and that events before the next frame are one less
 abbrev KeptTo : Begun → Machine → Record → Order → List Gear → ℕ → Type 0
 KeptTo start m x o gs left =
-    IsNext start (machine_ordered (with_kept m x) o) o gs left × (survey_slack (Some o) None + 1 ≤ survey_slack (Some (Commit x)) None)
+    GoesTo start (with_kept m x) o gs left × (survey_slack (Some o) None + 1 ≤ survey_slack (Some (Commit x)) None)
 
 pub begins_less : (o : Order) (t : Machine) (n : ℕ) → o ≡ beginning (next_course t) → 1 ≤ n → survey_slack (Some o) None + 1 ≤ n
 begins_less o t n is one = let none : survey_slack (Some o) None ≡ 0 = rw is refl in omega (arith, none, one)
@@ -243,7 +243,7 @@ visited_bare r k n gs rest w =
 unnamed_turns : (start : Begun) (t : Machine) (o : Order) (r : SearchAddress) (gs : List Gear) (left : ℕ) → IsGivenBy t o → SurveyStands true start t gs left
     → IsAtHand t.kept gs → t.course.purpose ≡ Visiting → stage_of t.trace ≡ stage.Unnamed r
     → Hunts true Visiting (stage.Unnamed r) t.kept t.heard t.course start gs left
-    → IsNext start (machine_ordered t o) o gs left
+    → GoesTo start t o gs left
 unnamed_turns start t o r gs left g st hand purpose is v =
     go (address_for t.kept.reserved (value_of r)) (found_address t.kept.reserved (value_of r)) (least_open t.kept t.heard) refl
     (subst (λ y. AfterMaskOn y t (course_by t o) r o) st.calm.smooth.way (g.ordered.unnamed r is)) where
@@ -273,7 +273,7 @@ unnamed_turns start t o r gs left g st hand purpose is v =
             absurd (none (subst (HasRandom t.kept.reserved) (number ∙ sym same) (has_map (λ (q : Assignment). q.1) t.kept.reserved x has)))
 
       reserves : (a : ℕ) → is_open t.kept t.heard a ≡ true → (HasRandom t.kept.reserved (value_of r) → ⊥)
-          → IsNext start (machine_ordered t (Commit (Reserve a (value_of r)))) (Commit (Reserve a (value_of r))) gs left
+          → GoesTo start t (Commit (Reserve a (value_of r))) gs left
       reserves a free none = (
         st.calm,
         record {
@@ -299,16 +299,16 @@ unnamed_turns start t o r gs left g st hand purpose is v =
         count more behind rest after same one two = omega (arith, same, one, two)
 
       go : (given_to : Option ℕ) → MatchOption given_to (HasRandom t.kept.reserved (value_of r) → ⊥) (λ a. Has t.kept.reserved (a, value_of r))
-          → (free : Option ℕ) → least_open t.kept t.heard ≡ free → AfterMaskBy t r given_to free o → IsNext start (machine_ordered t o) o gs left
+          → (free : Option ℕ) → least_open t.kept t.heard ≡ free → AfterMaskBy t r given_to free o → GoesTo start t o gs left
       go (Some a) has free least mask = by (is_withheld t a (value_of r)) refl where
-        by : (b : Bool) → is_withheld t a (value_of r) ≡ b → IsNext start (machine_ordered t o) o gs left
+        by : (b : Bool) → is_withheld t a (value_of r) ≡ b → GoesTo start t o gs left
         by false free =
             later_by start t o (stage.Unnamed r) (frame_of (Program (Some a))) gs left st (subst (λ b. AfterReserved t a b o) free mask) is tt
         by true withheld =
             absurd (let never : true ≡ false = sym (withheld_anothers t t.course.way a (value_of r) withheld)
             ∙ nobody_elses t.kept t.heard gs hand.holds hand.owned v.clear a (value_of r) has in cc)
       go None none (Some a) least mask =
-          subst (λ q. IsNext start (machine_ordered t q) q gs left) (sym mask)
+          subst (λ q. GoesTo start t q gs left) (sym mask)
           (reserves a (open_is t.kept t.heard (t.kept.block.last + 1 - t.kept.block.first) t.kept.block.first a least) none)
       go None none None least mask =
           first_by start t o (closing_by t.course BlockFull) gs left st.calm mask
@@ -332,7 +332,7 @@ unnamed_turns start t o r gs left g st hand purpose is v =
 withdrawn_turns : (start : Begun) (t : Machine) (o : Order) (r : SearchAddress) (a : ℕ) (gs : List Gear) (left : ℕ) → IsGivenBy t o
     → SurveyStands true start t gs left → IsKept t.kept → t.course.purpose ≡ Visiting → stage_of t.trace ≡ stage.Withdrawn r a
     → Hunts true Visiting (stage.Withdrawn r a) t.kept t.heard t.course start gs left → IsUncontradicted t
-    → IsNext start (machine_ordered t o) o gs left
+    → GoesTo start t o gs left
 withdrawn_turns start t o r a gs left g st kept purpose is v agreed = go o g (g.ordered.found r a is) where
   w : Leaves r a t.kept t.course.number (those_drawn gs) v.rest
   w = v.at.0
@@ -373,14 +373,14 @@ withdrawn_turns start t o r a gs left g st kept purpose is v agreed = go o g (g.
         subst (Has t.kept.enrolled)
         (sym (same_member (λ (q : Assignment). q.1) t.kept.reserved x (a, value_of r) kept.reserved.random_once has reserved (number ∙ same))) entry
 
-  go : (q : Order) → IsGivenBy t q → AfterFinding t a (value_of r) q → IsNext start (machine_ordered t q) q gs left
+  go : (q : Order) → IsGivenBy t q → AfterFinding t a (value_of r) q → GoesTo start t q gs left
   go (Put p f) g has =
       hunts_on start t (Put p f) (value_of r) gs left st.calm
       (given.withdrawn_known t (Put p f) r a g is kept.enrolled has) (ap (begins_at t) is) v.hunted v.clear (settled has) up w.ready w.unnamed
       (tabled_over (unseen start.gear) ((a, value_of r) ∷ t.kept.enrolled) t.kept.enrolled (those_drawn gs) (entry_twice t.kept.enrolled (a, value_of r) has)
       tabled)
       ends
-  go (Commit x) g has = subst (λ y. IsNext start (machine_ordered t (Commit y)) (Commit y) gs left) (sym has) (
+  go (Commit x) g has = subst (λ y. GoesTo start t (Commit y) gs left) (sym has) (
     st.calm,
     inr (record {
       hunted = v.hunted;
@@ -403,7 +403,7 @@ withdrawn_turns start t o r a gs left g st kept purpose is v agreed = go o g (g.
 visiting_turns : (start : Begun) (t : Machine) (o : Order) (s : Stage) (gs : List Gear) (left : ℕ) → IsGivenBy t o → SurveyStands true start t gs left
     → IsAtHand t.kept gs → t.course.purpose ≡ Visiting → stage_of t.trace ≡ s → (s ≡ stage.Free → ⊥)
     → Hunts true Visiting s t.kept t.heard t.course start gs left → IsUncontradicted t → turn_of Visiting t.course.number s ≡ None
-    → IsNext start (machine_ordered t o) o gs left
+    → GoesTo start t o gs left
 visiting_turns start t o stage.Free gs left g st hand purpose is running v agreed over = absurd (running refl)
 visiting_turns start t o (stage.HighSent high) gs left g st hand purpose is running v agreed over = absurd (cc)
 visiting_turns start t o (stage.MiddleSent high middle) gs left g st hand purpose is running v agreed over = absurd (cc)
@@ -421,10 +421,10 @@ visiting_turns start t o _ gs left g st hand purpose is running v agreed over = 
 pub turned : (start : Begun) (t : Machine) (o : Order) (gs : List Gear) (left : ℕ) → IsGivenBy t o → SurveyStands true start t gs left
     → IsAtHand t.kept gs → IsUncontradicted t → IsWhole (machine_ordered t o) → IsNoEnrolment t.last
     → (stage_of t.trace ≡ stage.Free → ⊥)
-    → IsNext start (machine_ordered t o) o gs left
+    → GoesTo start t o gs left
 turned start t o gs left g st hand agreed whole last running = by (turn_of t.course.purpose t.course.number (stage_of t.trace)) refl where
   go : (p : Purpose) → t.course.purpose ≡ p → SurveyAt true p (stage_of t.trace) t.kept t.heard t.asked t.course start gs left
-      → turn_of p t.course.number (stage_of t.trace) ≡ None → IsNext start (machine_ordered t o) o gs left
+      → turn_of p t.course.number (stage_of t.trace) ≡ None → GoesTo start t o gs left
   go (Counting a) purpose at over =
       census_turns start t o a (stage_of t.trace) gs left g st last purpose refl running at.0 at.1 hand agreed whole over
   go Calling purpose at over = calling_turns start t o (stage_of t.trace) gs left g st purpose refl running at hand.numbered over
@@ -434,13 +434,13 @@ turned start t o gs left g st hand agreed whole last running = by (turn_of t.cou
   go Hunting purpose at over = hunting_turns start t o (stage_of t.trace) gs left g st purpose refl running at over
   go Visiting purpose at over = visiting_turns start t o (stage_of t.trace) gs left g st hand purpose refl running at agreed over
   go (Closing e) purpose at over =
-      subst (λ q. IsNext start (machine_ordered t q) q gs left)
+      subst (λ q. GoesTo start t q gs left)
       (sym (close_ends t o e (stage_of t.trace) g purpose refl running at.stage_is st.trace.finding st.calm.untried)) (at.well, at.tabled, at.settled)
   go Opening purpose at over = absurd at
   go Probing purpose at over = absurd at
   go PassingOver purpose at over = absurd at
   go (Resolving a) purpose at over = absurd at
 
-  by : (q : Option Command) → turn_of t.course.purpose t.course.number (stage_of t.trace) ≡ q → IsNext start (machine_ordered t o) o gs left
+  by : (q : Option Command) → turn_of t.course.purpose t.course.number (stage_of t.trace) ≡ q → GoesTo start t o gs left
   by (Some c) turn = turns_by start t o t.course.purpose (stage_of t.trace) c gs left g st refl refl turn
   by None over = go t.course.purpose refl st.at over
