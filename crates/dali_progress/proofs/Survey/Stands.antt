@@ -273,13 +273,13 @@ abbrev pub IsSmooth : Course → Type 0
 IsSmooth c = Smooth c.way c.tally.passed c.tally.is_missed
 
 -- what every machine has that is not disturbed
-pub record Undisturbed (tries silent : ℕ) (c : Course) : Type 0 where
+pub record Undisturbed (tries silent : ℕ) (y : Way) (p : Passed) (b : Bool) : Type 0 where
   pub untried : tries ≡ 0
   pub loud : silent ≡ 0
-  pub smooth : IsSmooth c
+  pub smooth : Smooth y p b
 
 abbrev pub Calm : Machine → Type 0
-Calm m = Undisturbed m.tries m.silent m.course
+Calm m = Undisturbed m.tries m.silent m.course.way m.course.tally.passed m.course.tally.is_missed
 
 pub record SurveyStands (told : Bool) (start : Begun) (m : Machine) (gs : List Gear) (left : ℕ) : Type 0 where
   pub calm : Calm m
