@@ -1,22 +1,12 @@
-use Rattle.std.proofs.Common.{◌≡◌, ℕ, ◌⊎◌, inl, inr, List, [], ◌∷◌, refl, lit<, lit≤, Some, false, ◌++◌, None}
-use Rattle.dali_frame.{specs.declared.frames.Answer.TheVariants.Silence}
-use Rattle.dali_special.{specs.Command.{command_of, frame}, specs.declared.command.Command.TheVariants.Terminate}
-use Rattle.dali_arbiter.{specs.Arbiter.request_of, specs.declared.request.Request.Request}
-use Rattle.dali_script.{specs.Records.without_records, specs.Scripts.Open, specs.Stages.stage_of, specs.declared.block.Block.Block}
-use Rattle.dali_script.{specs.declared.orders.End.End, specs.declared.orders.End.TheVariants.AllFound, specs.declared.orders.Input.Input}
-use Rattle.dali_script.{specs.declared.orders.Order.TheVariants.Put, specs.declared.stage.Stage.TheVariants.Free}
-use Rattle.dali_controller.{specs.Machine.at_first, specs.Orders.IsGiven}
-use Rattle.dali_events.{specs.Allowed.{Allowed, IsDue}, specs.Plan.Plan, specs.World.{controller_at, start}, specs.declared.event.Event.Event}
-use Rattle.dali_events.{proofs.Invariant.Growing.leaves_none, proofs.Plans.plan_is}
-use Rattle.dali_world.specs.Site.{SiteState, world, next_request, site_logged, machines}
-use Rattle.dali_progress.{specs.Rounds.{IsOfRound, site_after, GoesOn, HasEnded, ByStart, BeginsAlone, Rounds}, specs.Ends.IsTrueEnd}
-use Rattle.dali_progress.{proofs.Session.first_given}
-use Rattle.dali_progress.proofs.Session.{block, given_first, opening, searching, compare, ending, given_initialise, given_initialise_again, given_randomise}
-use Rattle.dali_progress.proofs.Session.{given_randomise_again, given_high, given_middle, given_low, given_compare, given_close, given_done}
-use Rattle.dali_progress.proofs.Playing.{Plays, rounds_by, plays_by}
-use Rattle.dali_standing.{specs.Standing.machines_at}
+use Rattle.dali_progress.proofs.Below.{◌≡◌, ℕ, ◌⊎◌, inl, inr, List, [], ◌∷◌, refl, lit<, lit≤, Some, false, ◌++◌, None, Silence, command_of, frame, Terminate}
+use Rattle.dali_progress.proofs.Below.{request_of, Request, without_records, Open, stage_of, Block, End, AllFound, Input, Put, Free, at_first, IsGiven, Allowed}
+use Rattle.dali_progress.proofs.Below.{IsDue, Plan, controller_at, start, Event, leaves_none, plan_is, SiteState, world, next_request, site_logged, machines}
+use Rattle.dali_progress.proofs.Below.{IsOfRound, site_after, GoesOn, HasEnded, ByStart, BeginsAlone, Rounds, IsTrueEnd, machines_at}
 use Rattle.dali_script.specs.declared.orders.Input.TheVariants as input
 use Rattle.dali_events.specs.declared.event.Event.TheVariants as event
+use Rattle.dali_progress.proofs.Session.{first_given, block, given_first, opening, searching, compare, ending, given_initialise, given_initialise_again}
+use Rattle.dali_progress.proofs.Session.{given_randomise, given_randomise_again, given_high, given_middle, given_low, given_compare, given_close, given_done}
+use Rattle.dali_progress.proofs.Playing.{Plays, rounds_by, plays_by}
 
 -- ALONE MATTERS. One gear and two controllers, at their start. Each event is of a round of one of the
 -- two. The second one sends the first frame of its opening, and owns the bus from then on: the first

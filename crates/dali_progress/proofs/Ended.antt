@@ -1,20 +1,15 @@
-use Rattle.std.proofs.Common.{◌≡◌, ℕ, suc, ◌+◌, ◌≤◌, true, false, List, [], ◌∷◌, refl, sym, ap, subst, ◌∙◌, arith, length, Option, Some, None, Ok, ◌<◌, ◌⊎◌}
-use Rattle.std.proofs.Common.{inl, inr, Bool}
-use Rattle.dali_script.{specs.declared.orders.Input.Input, specs.declared.orders.Order.Order, specs.declared.orders.Order.TheVariants.Put}
-use Rattle.dali_script.{specs.declared.records.Record.Record}
-use Rattle.dali_controller.{specs.Machine.Machine}
-use Rattle.dali_events.{specs.Allowed.{Allowed, IsDue}, specs.Happens.happens, specs.World.{World, Controller, controller_at}, specs.declared.event.Event.Event}
-use Rattle.dali_world.specs.Site.{SiteState, world, site_logged, next_request}
-use Rattle.dali_replay.{specs.Installation.Installation, specs.Rounds.{has_turn, controllers}}
-use Rattle.dali_progress.specs.Rounds.{Succeeds, IsOfRound, Rounds, site_after, frames, IsAlone, most_frames, BySurvey, bare, most_events, Beginning, GoesOn}
-use Rattle.dali_progress.{specs.Rounds.{by_survey, BeginsAlone}, specs.Running.{HasEndedBy, WasRefused, HasBegun, begun, RanAlone}, proofs.Along.Runs}
-use Rattle.dali_progress.{proofs.Along.runs_on, proofs.Logged.world_logged, proofs.Lone.{Moment, acted_last, sent_last, lone_next}, proofs.Running.IsLeft}
-use Rattle.dali_progress.{proofs.Running.{AreLeft, Comes, Came, all_played, one_more, over, due_turn}, proofs.Survey.Goes.{of_survey, argument, began_at}}
-use Rattle.dali_progress.{proofs.Survey.Goes.starts, proofs.Survey.Stands.Begun, proofs.Beginnings.{alone_of, bounded, few_events, after, goes_on, ends, named}}
+use Rattle.dali_progress.proofs.Below.{◌≡◌, ℕ, suc, ◌+◌, ◌≤◌, true, false, List, [], ◌∷◌, refl, sym, ap, subst, ◌∙◌, arith, length, Option, Some, None, Ok, ◌<◌}
+use Rattle.dali_progress.proofs.Below.{◌⊎◌, inl, inr, Bool, Input, Order, Put, Record, Machine, Allowed, IsDue, happens, World, Controller, controller_at}
+use Rattle.dali_progress.proofs.Below.{Event, SiteState, world, site_logged, next_request, Installation, has_turn, controllers, Succeeds, IsOfRound, Rounds}
+use Rattle.dali_progress.proofs.Below.{site_after, frames, IsAlone, most_frames, BySurvey, bare, most_events, Beginning, GoesOn, by_survey, BeginsAlone}
+use Rattle.dali_progress.proofs.Below.{HasEndedBy, WasRefused, HasBegun, begun, RanAlone}
 use Rattle.dali_script.specs.declared.orders.Input.TheVariants as input
 use Rattle.dali_events.specs.declared.event.Event.TheVariants as event
 use Rattle.dali_replay.specs.Installation as replayed
 use Rattle.dali_replay.specs.Rounds as replay
+use Rattle.dali_progress.proofs.{Along.{Runs, runs_on}, Logged.world_logged, Lone.{Moment, acted_last, sent_last, lone_next}, Running.{IsLeft, AreLeft, Comes}}
+use Rattle.dali_progress.proofs.{Running.{Came, all_played, one_more, over, due_turn}, Survey.Goes.{of_survey, argument, began_at, starts}, Survey.Stands.Begun}
+use Rattle.dali_progress.proofs.Beginnings.{alone_of, bounded, few_events, after, goes_on, ends, named}
 
 -- A RUN OF ROUNDS after a survey began, on an installation with one controller.
 

@@ -1,31 +1,21 @@
-use Rattle.std.proofs.Common.{◌≡◌, ℕ, ◌+◌, ◌<◌, ◌≤◌, inl, inr, Bool, true, false, zero, suc, List, [], ◌∷◌, refl, sym, ap, subst, ◌∙◌, arith, length, get_or}
-use Rattle.std.proofs.Common.{Option, Some, None, ◌==◌, if◌then◌else◌}
-use Rattle.std.{proofs.lemmas.Bool.Decides.nat_tests, specs.List.count_by}
-use Rattle.dali_frame.specs.{Random.value_of, Random.MASK24, declared.frames.Answer.Answer, declared.frames.Answer.TheVariants.Silence}
-use Rattle.dali_frame.specs.declared.{frames.Answer.TheVariants.Byte, frames.Answer.TheVariants.Damaged, numbers.SearchAddress.SearchAddress}
-use Rattle.dali_special.specs.Command.{program_data}
-use Rattle.dali_special.specs.declared.command.Command.{Command, TheVariants.Terminate, TheVariants.Initialise}
-use Rattle.dali_special.specs.declared.command.Command.TheVariants.{Randomise, Compare, Withdraw, SearchHigh, SearchMiddle, SearchLow, Program, QueryShort}
-use Rattle.dali_special.{specs.declared.command.Target.TheVariants.Unaddressed, proofs.Table.short_of_code}
-use Rattle.dali_gear.specs.{Gear.Gear, Gear.fresh, Gear.is_active, Row.row_after, Row.draws_needed, Row.drawn_of, Row.answers_of, Row.heard_of}
-use Rattle.dali_gear.specs.declared.{row.Reach.TheVariants.Everyone, state.InitialisationState.TheVariants.Enabled}
-use Rattle.dali_script.specs.{Records.Kept, Records.Has, Stages.next_stage, Stages.queried, Stages.verified, Stages.IsSearched}
-use Rattle.dali_script.specs.declared.{orders.End.End, orders.End.TheVariants.AllFound, stage.Stage.Stage}
+use Rattle.dali_progress.proofs.Below.{◌≡◌, ℕ, ◌+◌, ◌<◌, ◌≤◌, inl, inr, Bool, true, false, zero, suc, List, [], ◌∷◌, refl, sym, ap, subst, ◌∙◌, arith, length}
+use Rattle.dali_progress.proofs.Below.{get_or, Option, Some, None, ◌==◌, if◌then◌else◌, nat_tests, count_by, value_of, MASK24, Answer, Silence, Byte, Damaged}
+use Rattle.dali_progress.proofs.Below.{SearchAddress, program_data, Command, Terminate, Initialise, Randomise, Compare, Withdraw, SearchHigh, SearchMiddle}
+use Rattle.dali_progress.proofs.Below.{SearchLow, Program, QueryShort, Unaddressed, short_of_code, Gear, fresh, is_active, row_after, draws_needed, drawn_of}
+use Rattle.dali_progress.proofs.Below.{answers_of, heard_of, Everyone, Enabled, Kept, Has, next_stage, queried, verified, IsSearched, End, AllFound, Stage}
+use Rattle.dali_progress.proofs.Below.{Search, Agrees, Gives, HasAtMost, sought, is_yes, Purpose, Opening, Probing, Visiting, Closing, HasShort, is_wanted}
+use Rattle.dali_progress.proofs.Below.{wants, is_bare, OfPowered, Seek, AreApart, IsOpened, NoneNamedBut, AreNamed, gear_of, row_length, LeavesShort, SameCore}
+use Rattle.dali_progress.proofs.Below.{EndsWell}
+use Rattle.dali_events.specs.Searching.{number_at}
 use Rattle.dali_script.specs.declared.stage.Stage.TheVariants as stage
-use Rattle.dali_search.specs.Least.{Search, Agrees, Gives, HasAtMost}
-use Rattle.dali_controller.specs.{Course.sought, Course.is_yes, declared.purpose.Purpose.Purpose}
-use Rattle.dali_controller.specs.declared.purpose.Purpose.TheVariants.{Opening, Probing, Visiting, Closing}
-use Rattle.dali_events.specs.Searching.{number_at, HasShort}
-use Rattle.dali_events.specs.Wanted.{is_wanted, wants, is_bare, OfPowered, Seek, AreApart, IsOpened, NoneNamedBut, AreNamed, gear_of}
-use Rattle.dali_events.proofs.{Invariant.Takes.row_length, Search.Leaving.LeavesShort, Search.Leaving.SameCore}
 use Rattle.dali_events.proofs.Search.Heard as hearing
 use Rattle.dali_events.proofs.Search.Leaving as leaving
 use Rattle.dali_events.proofs.Search.Opened as opening
 use Rattle.dali_events.proofs.Search.Programming as programming
 use Rattle.dali_events.proofs.Search.Wanted as wanted
 use Rattle.dali_events.proofs.Search.Withdrawing as withdrawing
-use Rattle.dali_progress.{specs.Ends.EndsWell, proofs.Stands.{sent_at, search_frames, probe_frames, Opens, ProbeStage, Probes, VisitStage, IsVisited}}
-use Rattle.dali_progress.proofs.Stands.{VisitFrames, Visits, HaveShort, Names, VisitsAt, Closes, At, Sends, some_is, visit_by}
+use Rattle.dali_progress.proofs.Stands.{sent_at, search_frames, probe_frames, Opens, ProbeStage, Probes, VisitStage, IsVisited, VisitFrames, Visits, HaveShort}
+use Rattle.dali_progress.proofs.Stands.{Names, VisitsAt, Closes, At, Sends, some_is, visit_by}
 
 -- A FRAME IS SENT, and each gear with power takes it. The transaction goes on to its next stage, and one frame less is
 -- left to be sent.

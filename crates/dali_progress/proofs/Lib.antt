@@ -1,3 +1,4 @@
+mod Below
 mod Later
 mod Lone
 mod Logged

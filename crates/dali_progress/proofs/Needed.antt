@@ -1,20 +1,12 @@
-use Rattle.std.proofs.Common.{◌≡◌, ℕ, List, [], ◌∷◌, ◌++◌, refl, lit<, Some, None, false, true, sym, ap, subst, ◌∙◌, arith}
-use Rattle.dali_special.specs.Command.{command_of, frame}
-use Rattle.dali_gear.{specs.Row.answers_of, specs.declared.row.Reach.TheVariants.Everyone}
-use Rattle.dali_script.{specs.Stages.stage_of, specs.declared.orders.End.End, specs.declared.orders.Input.Input}
-use Rattle.dali_events.{specs.Plan.{Plan, IsPlan}, specs.World.{start, controller_at}, specs.declared.event.Event.Event, specs.Happens.happens}
-use Rattle.dali_events.{specs.Allowed.{Allowed, IsDue, HasDraws}, proofs.Histories.Tested.allowed_by, proofs.Plans.plan_is}
-use Rattle.dali_events.{proofs.Invariant.Growing.leaves_none}
-use Rattle.dali_standing.{specs.Standing.machines_at}
-use Rattle.dali_world.specs.Site.{SiteState, world, site_logged, machines, next_request}
-use Rattle.dali_progress.{specs.Rounds.{Rounds, site_after, ByStart, BeginsAlone, IsOfRound, HasEnded}, proofs.Logged.begins_new, proofs.Playing.Plays}
-use Rattle.dali_progress.{proofs.Playing.{rounds_by, plays_by, BreaksEnd}, proofs.Session.{block, opening, searching, compare, ending, given_first}}
-use Rattle.dali_progress.proofs.Session.{given_initialise, given_initialise_again, given_randomise, given_randomise_again, given_high, given_middle, given_low}
-use Rattle.dali_progress.proofs.Session.{given_compare, given_close, given_done, up_to_draw}
-use Rattle.dali_frame.{specs.declared.frames.Forward.Forward}
-use Rattle.dali_arbiter.{specs.Arbiter.request_of, specs.declared.request.Request.Request}
+use Rattle.dali_progress.proofs.Below.{◌≡◌, ℕ, List, [], ◌∷◌, ◌++◌, refl, lit<, Some, None, false, true, sym, ap, subst, ◌∙◌, arith, command_of, frame}
+use Rattle.dali_progress.proofs.Below.{answers_of, Everyone, stage_of, End, Input, Plan, IsPlan, start, controller_at, Event, happens, Allowed, IsDue, HasDraws}
+use Rattle.dali_progress.proofs.Below.{allowed_by, plan_is, leaves_none, machines_at, SiteState, world, site_logged, machines, next_request, Rounds, site_after}
+use Rattle.dali_progress.proofs.Below.{ByStart, BeginsAlone, IsOfRound, HasEnded, Forward, request_of, Request}
 use Rattle.dali_events.specs.declared.event.Event.TheVariants as event
 use Rattle.dali_script.specs.declared.orders.Input.TheVariants as input
+use Rattle.dali_progress.proofs.{Logged.begins_new, Playing.{Plays, rounds_by, plays_by, BreaksEnd}, Session.{block, opening, searching, compare, ending}}
+use Rattle.dali_progress.proofs.Session.{given_first, given_initialise, given_initialise_again, given_randomise, given_randomise_again, given_high}
+use Rattle.dali_progress.proofs.Session.{given_middle, given_low, given_compare, given_close, given_done, up_to_draw}
 
 -- UNDISTURBED MATTERS. Short histories of one controller that starts alone, in which all events but
 -- one are of rounds; it ends with all-found, and a gear that has power has no short address. The gear

@@ -1,20 +1,15 @@
-use Rattle.std.proofs.Common.{◌≡◌, ℕ, ◌+◌, ◌<◌, ◌≤◌, ◌⊎◌, inl, inr, Bool, true, false, zero, suc, List, [], ◌∷◌, refl, sym, ap, subst, ◌∙◌, arith, length, Some}
-use Rattle.std.{proofs.Common.{None, if◌then◌else◌, ◌==◌, slice_index_or}, specs.List.count_by}
-use Rattle.dali_gear.{specs.Gear.Gear}
-use Rattle.dali_script.{specs.Records.{Has, InBlock, Assignment, Kept}, specs.declared.orders.End.End, specs.declared.block.Block.Block, proofs.Lists.has_map}
-use Rattle.dali_script.{proofs.Members.mapped_from}
-use Rattle.dali_events.{specs.Plan.{block_at, Plan, IsPlan, no_block}, specs.Promise.{HoldsShort, KeepsAddresses}, specs.Runs.IsRun, specs.Searching.HasShort}
-use Rattle.dali_events.{specs.Wanted.{gear_of, is_bare}, specs.World.{gear_at, controller_at}, specs.declared.event.Event.Event, specs.declared.used.Used.Used}
-use Rattle.dali_events.{specs.Laws.{IsReservedFor, IsOfUsed}, specs.Used.{used_gear, used_shorts}, proofs.Invariant.Safe.{holds_after, Holds}}
-use Rattle.dali_events.{proofs.Invariant.Starting.{IsUsedOrFresh, row_at, start_count, stands}, proofs.Search.Wanted.{bare_is, same_number, number_same}}
-use Rattle.dali_world.{specs.Site.{SiteState, world, opened_site}, proofs.Logs.records_now}
-use Rattle.dali_progress.{specs.Ends.{table_at, IsUnseen}, specs.Replaced.{IsVacant, HasVacant, HasNew, only, IsServed, AreNamed, IsReplacing}}
-use Rattle.dali_progress.specs.Rounds.{Rounds, BySurvey, IsAlone, IsSettledAt, HasEnded, site_after, most_frames, bare, BeginsAlone, ByStart, most_events}
-use Rattle.dali_progress.{specs.Running.{RanAlone, HasBegun, HasRoom, HasEndedBy}, proofs.Beginnings.{runs_after, named, begins_settled}, proofs.Gives.Gives}
-use Rattle.dali_progress.{proofs.Survey.Drawn.{count_first, count_nothing}, proofs.Survey.Vacant.{all_give, IsOver, over, enough_found}}
-use Rattle.dali_progress.{proofs.Survey.Goes.{began_at, starts, one_now, tabled}, proofs.Both.has_address, proofs.Logged.begins_new}
-use Rattle.dali_progress.proofs.Refused.{run_commissions, ran_new, room_new}
-use Rattle.dali_replay.{specs.Installation.{Installation, installation_of}, specs.Rounds.Ran}
+use Rattle.dali_progress.proofs.Below.{◌≡◌, ℕ, ◌+◌, ◌<◌, ◌≤◌, ◌⊎◌, inl, inr, Bool, true, false, zero, suc, List, [], ◌∷◌, refl, sym, ap, subst, ◌∙◌, arith}
+use Rattle.dali_progress.proofs.Below.{length, Some, None, if◌then◌else◌, ◌==◌, slice_index_or, count_by, Gear, Has, InBlock, Assignment, Kept, End, Block}
+use Rattle.dali_progress.proofs.Below.{has_map, mapped_from, block_at, Plan, IsPlan, no_block, HoldsShort, KeepsAddresses, IsRun, HasShort, gear_of, is_bare}
+use Rattle.dali_progress.proofs.Below.{gear_at, controller_at, Event, Used, IsReservedFor, IsOfUsed, used_gear, used_shorts, holds_after, Holds, IsUsedOrFresh}
+use Rattle.dali_progress.proofs.Below.{row_at, start_count, stands, bare_is, same_number, number_same, SiteState, world, opened_site, records_now, table_at}
+use Rattle.dali_progress.proofs.Below.{IsUnseen, IsVacant, HasVacant, HasNew, only, IsServed, IsReplacing, Rounds, BySurvey, IsAlone, IsSettledAt, HasEnded}
+use Rattle.dali_progress.proofs.Below.{site_after, most_frames, bare, BeginsAlone, ByStart, most_events, RanAlone, HasBegun, HasRoom, HasEndedBy, Installation}
+use Rattle.dali_progress.proofs.Below.{installation_of, Ran}
+use Rattle.dali_progress.specs.Replaced.{AreNamed}
+use Rattle.dali_progress.proofs.{Beginnings.{runs_after, named, begins_settled}, Gives.Gives, Survey.Drawn.{count_first, count_nothing}, Survey.Vacant.all_give}
+use Rattle.dali_progress.proofs.{Survey.Vacant.{IsOver, over, enough_found}, Survey.Goes.{began_at, starts, one_now, tabled}, Both.has_address}
+use Rattle.dali_progress.proofs.{Logged.begins_new, Refused.{run_commissions, ran_new, room_new}}
 
 -- A NEW GEAR IS SERVED in a survey, if an address is vacant, and the others keep what they have.
 

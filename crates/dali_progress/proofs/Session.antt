@@ -1,23 +1,14 @@
-use Rattle.std.proofs.Common.{◌≡◌, ℕ, inl, inr, [], refl, sym, ap, subst, ◌∙◌, arith, Option, Some, None, List, ◌∷◌, ◌++◌}
-use Rattle.dali_frame.{specs.Priority.{FIRST, LATER}, specs.declared.frames.Forward.Forward, specs.declared.frames.Answer.TheVariants.Silence}
-use Rattle.dali_frame.{specs.declared.numbers.SearchAddress.SearchAddress}
-use Rattle.dali_special.{specs.Command.{command_of, frame_of, frame}, specs.declared.command.Command.Command, specs.declared.command.Command.TheVariants.Arc}
-use Rattle.dali_special.specs.declared.command.Command.TheVariants.{Terminate, Initialise, Randomise, Compare, SearchHigh, SearchMiddle, SearchLow}
-use Rattle.dali_special.{specs.declared.command.Target.TheVariants.Unaddressed}
-use Rattle.dali_script.{specs.Scripts.{Lawful, Open, Probe, Close}, specs.Stages.stage_of, specs.declared.orders.End.End}
-use Rattle.dali_script.{specs.declared.orders.End.TheVariants.AllFound, specs.declared.orders.Input.Input, specs.declared.orders.Order.Order}
-use Rattle.dali_script.{specs.declared.orders.Order.TheVariants.{Put, Commit, Done}, specs.declared.records.Record.TheVariants.Enrol}
-use Rattle.dali_script.{specs.declared.stage.Stage.Stage, specs.declared.stage.Stage.TheVariants.{Unnamed, Inconclusive, Withdrawn, Spelled, Terminated}}
-use Rattle.dali_script.specs.declared.stage.Stage.TheVariants.{Hunted, Free, InitialisedOnce, Initialised, RandomisedOnce, Opened, HighSent, MiddleSent}
-use Rattle.dali_script.{specs.declared.stage.Stage.TheVariants.{NumberSent, Probed}, specs.declared.block.Block.Block, specs.Records.without_records}
-use Rattle.dali_controller.{specs.Course.{turn_of, first_of}, specs.Machine.{Machine, machine_told, at_first}, specs.Next.{next_course, course_by, most_silent}}
-use Rattle.dali_controller.{specs.Next.BeginsWith, specs.Orders.{IsAllowed, IsAddressing, IsBegun, IsCaused, IsOrdered, IsFollowed, IsGiven, machine_after}}
-use Rattle.dali_controller.{specs.Orders.running_close, specs.declared.purpose.Purpose.Purpose, specs.declared.way.Way.Way}
-use Rattle.dali_controller.specs.declared.way.Way.TheVariants.{Fresh, Surveying}
-use Rattle.dali_progress.proofs.Later.{IsUnasked, course_stays}
-use Rattle.dali_events.{specs.declared.event.Event.Event}
+use Rattle.dali_progress.proofs.Below.{◌≡◌, ℕ, inl, inr, [], refl, sym, ap, subst, ◌∙◌, arith, Option, Some, None, List, ◌∷◌, ◌++◌, FIRST, LATER, Forward}
+use Rattle.dali_progress.proofs.Below.{Silence, SearchAddress, command_of, frame_of, frame, Command, Arc, Terminate, Initialise, Randomise, Compare, SearchHigh}
+use Rattle.dali_progress.proofs.Below.{SearchMiddle, SearchLow, Unaddressed, Lawful, Open, Probe, Close, stage_of, End, AllFound, Input, Order, Put, Commit}
+use Rattle.dali_progress.proofs.Below.{Done, Enrol, Stage, Unnamed, Inconclusive, Spelled, Terminated, Hunted, Free, InitialisedOnce, Initialised}
+use Rattle.dali_progress.proofs.Below.{RandomisedOnce, Opened, HighSent, MiddleSent, NumberSent, Probed, Block, without_records, turn_of, first_of, Machine}
+use Rattle.dali_progress.proofs.Below.{machine_told, at_first, next_course, course_by, most_silent, BeginsWith, IsAllowed, IsAddressing, IsBegun, IsCaused}
+use Rattle.dali_progress.proofs.Below.{IsOrdered, IsFollowed, IsGiven, machine_after, running_close, Purpose, Way, Fresh, Surveying, Event}
+use Rattle.dali_script.specs.declared.stage.Stage.TheVariants.{Withdrawn}
 use Rattle.dali_script.specs.declared.orders.Input.TheVariants as input
 use Rattle.dali_events.specs.declared.event.Event.TheVariants as event
+use Rattle.dali_progress.proofs.Later.{IsUnasked, course_stays}
 
 -- ORDERS OF A MACHINE, by what a short history has at hand: the other way round from what is read
 -- from an order that was given.

@@ -1,19 +1,10 @@
-use Rattle.std.proofs.Common.{◌≡◌, ℕ, ◌+◌, ◌-◌, ◌*◌, ◌<◌, ◌≤◌, ◌⊎◌, Bool, true, false, zero, suc, List, ◌∷◌, length, Option, Some, sym, subst}
-use Rattle.std.specs.List.{count_by}
-use Rattle.dali_frame.specs.{Random.value_of, Random.MASK24, declared.frames.Answer.Answer, declared.numbers.SearchAddress.SearchAddress}
-use Rattle.dali_special.specs.declared.command.Command.{Command, TheVariants.{SearchHigh, SearchMiddle, SearchLow, QueryShort, Program, Withdraw}}
-use Rattle.dali_gear.specs.Gear.{Gear, is_active}
-use Rattle.dali_script.specs.Records.{Assignment, Kept, Has, HasRandom}
-use Rattle.dali_script.specs.{Stages.IsSearched, Stages.IsTrace, Stages.stage_of, declared.orders.End.End, declared.stage.Stage.Stage}
+use Rattle.dali_progress.proofs.Below.{◌≡◌, ℕ, ◌+◌, ◌-◌, ◌*◌, ◌<◌, ◌≤◌, ◌⊎◌, Bool, true, false, zero, suc, List, ◌∷◌, length, Option, Some, sym, subst}
+use Rattle.dali_progress.proofs.Below.{count_by, value_of, MASK24, Answer, SearchAddress, Command, SearchHigh, SearchMiddle, SearchLow, QueryShort, Program}
+use Rattle.dali_progress.proofs.Below.{Withdraw, Gear, is_active, Assignment, Kept, Has, HasRandom, IsSearched, IsTrace, stage_of, End, Stage, Search, Agrees}
+use Rattle.dali_progress.proofs.Below.{Gives, IsNarrowing, Again, first_of, turn_of, sought, is_yes, byte_to_send, call_turn, Machine, AsksOn}
+use Rattle.dali_progress.proofs.Below.{Sends as SendsWhole, Purpose, Opening, Probing, Visiting, Closing, Hunting, Calling, Fresh, is_wanted, wants, is_bare}
+use Rattle.dali_progress.proofs.Below.{OfPowered, IsOpened, NoneNamed, NoneNamedBut, AreOpening, EndsWell, AreTabled}
 use Rattle.dali_script.specs.declared.stage.Stage.TheVariants as stage
-use Rattle.dali_search.specs.{Least.Search, Least.Agrees, Least.Gives, Narrowing.IsNarrowing, declared.step.Step.TheVariants.Again}
-use Rattle.dali_controller.specs.Course.{first_of, turn_of, sought, is_yes, byte_to_send, call_turn}
-use Rattle.dali_controller.specs.{Machine.Machine, Whole.AsksOn, Whole.Sends as SendsWhole, declared.purpose.Purpose.Purpose}
-use Rattle.dali_controller.specs.declared.purpose.Purpose.TheVariants.{Opening, Probing, Visiting, Closing, Hunting, Calling}
-use Rattle.dali_controller.specs.declared.way.Way.TheVariants.{Fresh}
-use Rattle.dali_events.specs.Wanted.{is_wanted, wants, is_bare, OfPowered, IsOpened, NoneNamed, NoneNamedBut}
-use Rattle.dali_events.proofs.Search.Opened.{AreOpening}
-use Rattle.dali_progress.specs.Ends.{EndsWell, AreTabled}
 
 -- HOW FAR COMMISSIONING IS, if nothing is disturbed: what is true of gear, records and search at each stage of the
 -- running transaction, and how many frames are left to be sent, at the most.

@@ -1,19 +1,11 @@
-use Rattle.std.proofs.Common.{◌≡◌, ℕ, ◌<◌, ◌⊎◌, inl, inr, Bool, true, false, List, ◌∷◌, refl, sym, ap, subst, ◌∙◌, length, Some, ◌==◌}
-use Rattle.dali_frame.specs.{Random.value_of, declared.frames.Answer.Answer, declared.numbers.SearchAddress.SearchAddress}
-use Rattle.dali_special.specs.declared.command.Command.{Command, TheVariants.Terminate, TheVariants.Initialise}
-use Rattle.dali_special.specs.declared.command.Command.TheVariants.{Randomise, Compare, Withdraw, SearchHigh, SearchMiddle, SearchLow, Program, QueryShort}
-use Rattle.dali_special.specs.declared.command.Target.TheVariants.{Unaddressed}
-use Rattle.dali_gear.specs.{Gear.Gear, Gear.is_active, Gear.draws_a_number, Gear.gear_taken, Row.row_after, declared.row.Reach.TheVariants.Everyone}
-use Rattle.dali_script.specs.Records.{Assignment, Kept, Has}
-use Rattle.dali_script.specs.{Stages.next_stage, Stages.verified, declared.orders.End.End, declared.stage.Stage.Stage}
+use Rattle.dali_progress.proofs.Below.{◌≡◌, ℕ, ◌<◌, ◌⊎◌, inl, inr, Bool, true, false, List, ◌∷◌, refl, sym, ap, subst, ◌∙◌, length, Some, ◌==◌, value_of}
+use Rattle.dali_progress.proofs.Below.{Answer, SearchAddress, Command, Terminate, Initialise, Randomise, Compare, Withdraw, SearchHigh, SearchMiddle, SearchLow}
+use Rattle.dali_progress.proofs.Below.{Program, QueryShort, Unaddressed, Gear, is_active, draws_a_number, gear_taken, row_after, Everyone, Assignment, Kept}
+use Rattle.dali_progress.proofs.Below.{Has, next_stage, verified, End, Stage, Search, Purpose, Opening, Probing, Visiting, Closing, gear_of, OfPowered, Seek}
+use Rattle.dali_progress.proofs.Below.{row_length, AreOpening, after_at, same_number, number_same, AreTabled}
 use Rattle.dali_script.specs.declared.stage.Stage.TheVariants as stage
-use Rattle.dali_search.specs.Least.{Search}
-use Rattle.dali_controller.specs.declared.purpose.Purpose.{Purpose, TheVariants.Opening, TheVariants.Probing, TheVariants.Visiting, TheVariants.Closing}
-use Rattle.dali_events.{specs.Wanted.gear_of, specs.Wanted.OfPowered, specs.Wanted.Seek, proofs.Invariant.Takes.row_length, proofs.Search.Opened.AreOpening}
-use Rattle.dali_events.proofs.Search.Wanted.{after_at, same_number, number_same}
 use Rattle.dali_events.proofs.Search.Programming as programming
-use Rattle.dali_progress.{specs.Ends.AreTabled, proofs.Frames.Seeks, proofs.Later.verified_by, proofs.Stands.{to_come, Opens, VisitsAt, Probes, Closes, At}}
-use Rattle.dali_progress.proofs.Stands.{Sends, some_is, visit_by}
+use Rattle.dali_progress.proofs.{Frames.Seeks, Later.verified_by, Stands.{to_come, Opens, VisitsAt, Probes, Closes, At, Sends, some_is, visit_by}}
 
 -- THE TABLE NAMES THE GEAR, while frames are sent. A gear that has a short address keeps it, with its random address;
 -- and the one that is given an address is the one whose entry is to come.

@@ -1,30 +1,19 @@
-use Rattle.std.proofs.Common.{◌≡◌, ℕ, ◌+◌, ◌<◌, ◌≤◌, ◌⊎◌, inl, inr, Bool, true, false, List, [], ◌∷◌, refl, sym, ap, subst, ◌∙◌, arith, Option, Some, None}
-use Rattle.std.proofs.Common.{◌==◌, ◌-◌, ◌||◌, nat_lt, not, zero, suc, is_some, MatchOption, if◌then◌else◌}
-use Rattle.std.{proofs.lemmas.Bool.Decides.nat_tests, specs.List.AllByRecursion}
-use Rattle.dali_frame.specs.{Priority.FIRST, Priority.LATER, Random.number_of}
-use Rattle.dali_frame.specs.declared.frames.{Answer.Answer, Answer.TheVariants.Silence, Answer.TheVariants.Byte, Answer.TheVariants.Damaged, Forward.Forward}
-use Rattle.dali_special.specs.Command.{command_of}
-use Rattle.dali_script.specs.{Due.due_after, Due.accepts, Due.frame_put, Due.record_ordered, Findings.finding_of, Records.Kept, Records.Has, Records.HasAddress}
-use Rattle.dali_script.specs.Stages.{stage_of, next_stage, leads, given, byte_heard, bytes_heard, number_heard, finding_at}
-use Rattle.dali_script.specs.declared.orders.{End.End, Fault.Fault, Input.Input, Order.Order}
-use Rattle.dali_script.specs.declared.orders.Order.TheVariants.{Put, Commit, Done, Halt}
-use Rattle.dali_script.specs.declared.{records.Record.Record, records.Record.TheVariants.Reserve, records.Record.TheVariants.Enrol, stage.Stage.Stage}
-use Rattle.dali_script.proofs.{Found.finding_after, Transactions.stage_more, Transactions.stage_none, Transactions.lawful_follows}
+use Rattle.dali_progress.proofs.Below.{◌≡◌, ℕ, ◌+◌, ◌<◌, ◌≤◌, ◌⊎◌, inl, inr, Bool, true, false, List, [], ◌∷◌, refl, sym, ap, subst, ◌∙◌, arith, Option, Some}
+use Rattle.dali_progress.proofs.Below.{None, ◌==◌, ◌-◌, ◌||◌, nat_lt, not, zero, suc, is_some, MatchOption, if◌then◌else◌, nat_tests, AllByRecursion, FIRST}
+use Rattle.dali_progress.proofs.Below.{LATER, number_of, Answer, Silence, Byte, Damaged, Forward, command_of, due_after, accepts, frame_put, record_ordered}
+use Rattle.dali_progress.proofs.Below.{finding_of, Kept, Has, HasAddress, stage_of, next_stage, leads, given, byte_heard, bytes_heard, number_heard, finding_at}
+use Rattle.dali_progress.proofs.Below.{End, Fault, Input, Order, Put, Commit, Done, Halt, Record, Reserve, Enrol, Stage, finding_after, stage_more, stage_none}
+use Rattle.dali_progress.proofs.Below.{lawful_follows, Course, number_at, is_asked, asked_among, next_asked, going_on, going_on_early, ask_or_call, Machine}
+use Rattle.dali_progress.proofs.Below.{at_first, machine_told, machine_heard, machine_committed, asked_at, asked_after, asked_after_silence, next_course}
+use Rattle.dali_progress.proofs.Below.{begins_at, goes_on_to, at_rest, asked_once, course_by, course_on, IsGiven, IsAllowed, MayCommit, machine_after}
+use Rattle.dali_progress.proofs.Below.{machine_ordered, asked_by, IsWhole, IsReady, IsSending, Pending, Sends, Purpose, Asking, Surveying, found_number}
+use Rattle.dali_progress.proofs.Below.{unwarranted, IsSurveyed, BeginsBySurvey, AreWhole, Step, IsTaken, IsCourse, IsPlain, ArePlain, stage_told}
+use Rattle.dali_controller.specs.Whole.{Knows}
 use Rattle.dali_script.specs.declared.orders.Fault.TheVariants as fault
 use Rattle.dali_script.specs.declared.orders.Input.TheVariants as input
 use Rattle.dali_script.specs.declared.stage.Stage.TheVariants as stage
-use Rattle.dali_controller.specs.Course.{Course, number_at, is_asked, asked_among, next_asked, going_on, going_on_early, ask_or_call}
-use Rattle.dali_controller.specs.Machine.{Machine, at_first, machine_told, machine_heard, machine_committed, asked_at, asked_after, asked_after_silence}
-use Rattle.dali_controller.specs.Next.{next_course, begins_at, goes_on_to, at_rest, asked_once, course_by, course_on}
-use Rattle.dali_controller.specs.Orders.{IsGiven, IsAllowed, MayCommit, machine_after, machine_ordered, asked_by}
-use Rattle.dali_controller.specs.Whole.{IsWhole, IsReady, IsSending, Pending, Sends, Knows}
-use Rattle.dali_controller.specs.declared.{purpose.Purpose.Purpose, purpose.Purpose.TheVariants.Asking, way.Way.TheVariants.Surveying}
-use Rattle.dali_controller.proofs.{Courses.found_number, Given.unwarranted}
-use Rattle.dali_progress.specs.{Census.IsSurveyed, Census.BeginsBySurvey, Census.AreWhole, Surveyed.Step, Surveyed.IsTaken, Surveyed.IsCourse, Surveyed.IsPlain}
-use Rattle.dali_progress.{specs.Surveyed.ArePlain, specs.Surveyed.stage_told, proofs.Accounted.unreserved, proofs.Accounted.told_keeps}
-use Rattle.dali_progress.proofs.Census.Asked.{by_order, Asks, asks_of, self, sending_of, by_kind}
-use Rattle.dali_progress.proofs.Census.Course.{IsAlone, alone_after, put_is, commit_is, started, runs_after}
-use Rattle.dali_progress.proofs.Later.{IsUnasked, asking_unasked, stays_at}
+use Rattle.dali_progress.proofs.{Accounted.{unreserved, told_keeps}, Census.Asked.{by_order, Asks, asks_of, self, sending_of, by_kind}, Census.Course.IsAlone}
+use Rattle.dali_progress.proofs.{Census.Course.{alone_after, put_is, commit_is, started, runs_after}, Later.{IsUnasked, asking_unasked, stays_at}}
 
 -- WHAT A CENSUS SEES of a short address: until it was asked, or the table names it, it is still to come.
 

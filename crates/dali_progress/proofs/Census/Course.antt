@@ -1,23 +1,17 @@
-use Rattle.std.proofs.Common.{◌≡◌, ℕ, ◌+◌, ◌≤◌, ◌⊎◌, inl, inr, Bool, true, false, [], refl, ap, ◌∙◌, arith, Some, ◌==◌, if◌then◌else◌, ◌*◌, List, ◌∷◌, sym}
-use Rattle.std.proofs.Common.{subst, Option, None, zero, suc}
-use Rattle.dali_frame.{specs.Priority.{FIRST, LATER}, specs.declared.frames.Answer.Answer, specs.declared.frames.Answer.TheVariants.Silence}
-use Rattle.dali_frame.{specs.declared.frames.Forward.Forward}
-use Rattle.dali_script.{specs.Stages.stage_of, specs.declared.orders.Order.Order, specs.declared.orders.Order.TheVariants.{Put, Commit, Done, Halt}}
-use Rattle.dali_script.{specs.declared.orders.Fault.Fault, specs.declared.orders.Input.Input, specs.declared.records.Record.Record}
-use Rattle.dali_script.{specs.declared.records.Record.TheVariants.Reserve, specs.declared.stage.Stage.Stage, specs.Due.{due_after, accepts, frame_put}}
-use Rattle.dali_script.{specs.Due.record_ordered, specs.Records.Kept, proofs.Transactions.stage_none}
-use Rattle.dali_controller.{specs.Course.Course, specs.Machine.{Machine, at_first, machine_told, machine_heard, machine_committed}, specs.Next.next_course}
-use Rattle.dali_controller.{specs.Next.{begins_at, at_rest, course_on, asked_on}, specs.Orders.{IsAllowed, machine_ordered, asked_by, IsGiven, machine_after}}
-use Rattle.dali_controller.{specs.declared.purpose.Purpose.Purpose, specs.declared.purpose.Purpose.TheVariants.{Asking, Hunting}}
-use Rattle.dali_controller.{specs.declared.way.Way.TheVariants.Surveying, specs.Whole.IsWhole, proofs.Courses.{hunted_keeps, keeps_way}}
-use Rattle.dali_progress.specs.Census.{was_sent, was_lost, IsSurveyed, BeginsBySurvey, AreWhole, frames_asked, frames_lost, IsSteady, AreSteady}
-use Rattle.dali_progress.{specs.Surveyed.{Step, IsTaken, IsCourse}, proofs.Census.Asked.{by_order, moved_left, still_left, same_left, Leaves, sent_left}}
-use Rattle.dali_progress.proofs.Census.Left.{of_purpose, of_purpose_most, of_last, beyond, left, quiet, goes_moves, StaysOrMoves, begins_moves, on_moves}
-use Rattle.dali_progress.{proofs.Census.Left.{few_askings, Moves, waits, granted, beyond_most}, proofs.Accounted.told_keeps}
+use Rattle.dali_progress.proofs.Below.{◌≡◌, ℕ, ◌+◌, ◌≤◌, ◌⊎◌, inl, inr, Bool, true, false, [], refl, ap, ◌∙◌, arith, Some, ◌==◌, if◌then◌else◌, ◌*◌, List, ◌∷◌}
+use Rattle.dali_progress.proofs.Below.{sym, subst, Option, None, zero, suc, FIRST, LATER, Answer, Silence, Forward, stage_of, Order, Put, Commit, Done, Halt}
+use Rattle.dali_progress.proofs.Below.{Fault, Input, Record, Reserve, Stage, due_after, accepts, frame_put, record_ordered, Kept, stage_none, Course, Machine}
+use Rattle.dali_progress.proofs.Below.{at_first, machine_told, machine_heard, machine_committed, next_course, begins_at, at_rest, course_on, asked_on}
+use Rattle.dali_progress.proofs.Below.{IsAllowed, machine_ordered, asked_by, IsGiven, machine_after, Purpose, Asking, Hunting, Surveying, IsWhole, hunted_keeps}
+use Rattle.dali_progress.proofs.Below.{keeps_way, was_sent, was_lost, IsSurveyed, BeginsBySurvey, AreWhole, frames_asked, frames_lost, IsSteady, AreSteady}
+use Rattle.dali_progress.proofs.Below.{Step, IsTaken, IsCourse}
 use Rattle.dali_script.specs.declared.orders.Input.TheVariants as input
 use Rattle.dali_script.specs.declared.stage.Stage.TheVariants as stage
 use Rattle.dali_script.specs.declared.orders.Due.TheVariants as due
 use Rattle.dali_script.specs.declared.orders.Fault.TheVariants as fault
+use Rattle.dali_progress.proofs.{Census.Asked.{by_order, moved_left, still_left, same_left, Leaves, sent_left}, Census.Left.{of_purpose, of_purpose_most}}
+use Rattle.dali_progress.proofs.Census.Left.{of_last, beyond, left, quiet, goes_moves, StaysOrMoves, begins_moves, on_moves, few_askings, Moves, waits, granted}
+use Rattle.dali_progress.proofs.{Census.Left.beyond_most, Accounted.told_keeps}
 
 -- A CENSUS IS BOUNDED: what an order leaves at every other step, and if no survey counts.
 

@@ -1,23 +1,13 @@
-use Rattle.std.proofs.Common.{◌≡◌, ℕ, ◌+◌, ◌*◌, ◌<◌, ◌≤◌, ◌⊎◌, inl, inr, Bool, true, false, refl, sym, ap, subst, ◌∙◌, arith, Option, Some, None, ◌==◌, ◌&&◌}
-use Rattle.std.proofs.Common.{◌-◌, nat_lt, zero, suc, is_some, if◌then◌else◌}
-use Rattle.std.proofs.{Math.Nat.mul-le-mul_left, lemmas.Bool.Decides.nat_tests}
-use Rattle.dali_frame.specs.{Random.value_of, declared.frames.Answer.Answer, declared.numbers.SearchAddress.SearchAddress}
-use Rattle.dali_script.specs.{Records.Kept, Stages.stage_of}
-use Rattle.dali_script.specs.declared.orders.{End.TheVariants.BlockFull, Order.Order, Order.TheVariants.Put}
-use Rattle.dali_script.specs.declared.{orders.Order.TheVariants.Commit, records.Record.TheVariants.Reserve, stage.Stage.Stage}
+use Rattle.dali_progress.proofs.Below.{◌≡◌, ℕ, ◌+◌, ◌*◌, ◌<◌, ◌≤◌, ◌⊎◌, inl, inr, Bool, true, false, refl, sym, ap, subst, ◌∙◌, arith, Option, Some, None, ◌==◌}
+use Rattle.dali_progress.proofs.Below.{◌&&◌, ◌-◌, nat_lt, zero, suc, is_some, if◌then◌else◌, mul-le-mul_left, nat_tests, value_of, Answer, SearchAddress, Kept}
+use Rattle.dali_progress.proofs.Below.{stage_of, BlockFull, Order, Put, Commit, Reserve, Stage, leads_to, ascent_at_first, answered, Again, Found, Nobody}
+use Rattle.dali_progress.proofs.Below.{Course, address_for, is_asked, asked_among, next_asked, is_yes, closing, going_on, going_on_early, ask_or_call}
+use Rattle.dali_progress.proofs.Below.{searching_first, searching_on, hunted, asking_again, next_unfinished, probed, after_step, Machine, begins_at, goes_on_to}
+use Rattle.dali_progress.proofs.Below.{at_rest, asked_once, silenced, silenced_on, missed_again, is_failed, most_silent, unanswered, hunted_in, hunted_to}
+use Rattle.dali_progress.proofs.Below.{has_open, may_draw, asks_again, full, ungiven, undrawn, is_blocked, called_to, compared_in, asked_on, course_on}
+use Rattle.dali_progress.proofs.Below.{asked_again, Purpose, Asking, Hunting, Calling, Way, Fresh, Surveying, either}
+use Rattle.dali_search.specs.declared.step.Step.{Step}
 use Rattle.dali_script.specs.declared.stage.Stage.TheVariants as stage
-use Rattle.dali_search.specs.{Ascending.leads_to, Ascending.ascent_at_first, Least.answered, declared.step.Step.Step}
-use Rattle.dali_search.specs.declared.step.Step.TheVariants.{Again, Found, Nobody}
-use Rattle.dali_controller.specs.Course.{Course, address_for, is_asked, asked_among, next_asked, is_yes, closing, going_on, going_on_early, ask_or_call}
-use Rattle.dali_controller.specs.Course.{searching_first, searching_on, hunted, asking_again}
-use Rattle.dali_controller.specs.Course.{next_unfinished, probed, after_step}
-use Rattle.dali_controller.specs.{Machine.Machine, Next.begins_at, Next.goes_on_to}
-use Rattle.dali_controller.specs.Next.{at_rest, asked_once, silenced, silenced_on, missed_again, is_failed, most_silent, unanswered, hunted_in, hunted_to}
-use Rattle.dali_controller.specs.Next.{has_open, may_draw, asks_again, full, ungiven, undrawn, is_blocked, called_to, compared_in, asked_on, course_on}
-use Rattle.dali_controller.specs.Tally.{asked_again}
-use Rattle.dali_controller.specs.declared.purpose.Purpose.{Purpose, TheVariants.Asking, TheVariants.Hunting, TheVariants.Calling}
-use Rattle.dali_controller.specs.declared.way.Way.{Way, TheVariants.Fresh, TheVariants.Surveying}
-use Rattle.dali_controller.proofs.Courses.{either}
 
 -- A CENSUS IS BOUNDED: by how many of its frames may still be sent, which each of them makes fewer. What may still be sent, and
 -- that a transaction that begins never makes it more. `u` is 3 if the gear that is there may be silent twice and answer then, and 1

@@ -1,19 +1,12 @@
-use Rattle.std.proofs.Common.{◌≡◌, ℕ, ◌<◌, inl, inr, true, List, [], ◌∷◌, sym, subst, Some, ◌≤◌, ◌⊎◌, Bool, false, refl, ap, ◌∙◌, arith, ◌==◌}
-use Rattle.std.{proofs.lemmas.Bool.Decides.nat_tests, specs.List.AllByRecursion}
-use Rattle.dali_frame.{specs.Random.MASK24, specs.declared.frames.Answer.Answer, specs.declared.frames.Answer.TheVariants.Byte}
-use Rattle.dali_frame.{specs.declared.frames.Forward.Forward}
-use Rattle.dali_script.{specs.Due.{due_after, accepts, frame_put}, specs.Stages.{stage_of, given}, specs.declared.orders.Order.TheVariants.Put}
-use Rattle.dali_script.{specs.declared.stage.Stage.Stage}
-use Rattle.dali_controller.{specs.Machine.{Machine, machine_told, machine_heard}, specs.Orders.{IsGiven, machine_after, machine_ordered}, specs.Course.turn_of}
-use Rattle.dali_controller.{specs.Whole.IsWhole, specs.declared.purpose.Purpose.TheVariants.Asking}
-use Rattle.dali_progress.{specs.Census.{Spells, WasSpelled, IsNamed, IsClean, HasTakenCensus, BeginsBySurvey, AreWhole}, specs.Surveyed.{Step, IsTaken}}
-use Rattle.dali_progress.{specs.Surveyed.{IsCourse, IsPlain, ArePlain}, proofs.Accounted.{told_enrolled, never_due, named_by, enrolling}}
-use Rattle.dali_progress.{proofs.Census.Coming.{IsTabled, IsToCome, IsEnded, Hearing, hearing_of, Looks, watched}, proofs.Later.{IsUnasked, course_stays}}
-use Rattle.dali_progress.{proofs.Later.turn_unasked}
-use Rattle.dali_special.{specs.declared.command.Command.Command, specs.declared.command.Command.TheVariants.RandomByte}
-use Rattle.dali_special.specs.declared.command.Part.TheVariants.{Middle, Low}
+use Rattle.dali_progress.proofs.Below.{◌≡◌, ℕ, ◌<◌, inl, inr, true, List, [], ◌∷◌, sym, subst, Some, ◌≤◌, ◌⊎◌, Bool, false, refl, ap, ◌∙◌, arith, ◌==◌}
+use Rattle.dali_progress.proofs.Below.{nat_tests, AllByRecursion, MASK24, Answer, Byte, Forward, due_after, accepts, frame_put, stage_of, given, Put, Stage}
+use Rattle.dali_progress.proofs.Below.{Machine, machine_told, machine_heard, IsGiven, machine_after, machine_ordered, turn_of, IsWhole, Asking, Spells}
+use Rattle.dali_progress.proofs.Below.{WasSpelled, IsNamed, IsClean, HasTakenCensus, BeginsBySurvey, AreWhole, Step, IsTaken, IsCourse, IsPlain, ArePlain}
+use Rattle.dali_progress.proofs.Below.{Command, RandomByte, Middle, Low}
 use Rattle.dali_script.specs.declared.stage.Stage.TheVariants as stage
 use Rattle.dali_script.specs.declared.orders.Input.TheVariants as input
+use Rattle.dali_progress.proofs.{Accounted.{told_enrolled, never_due, named_by, enrolling}, Census.Coming.{IsTabled, IsToCome, IsEnded, Hearing, hearing_of}}
+use Rattle.dali_progress.proofs.{Census.Coming.{Looks, watched}, Later.{IsUnasked, course_stays, turn_unasked}}
 
 -- WHO TOLD ITS RANDOM ADDRESS IS IN THE TABLE.
 

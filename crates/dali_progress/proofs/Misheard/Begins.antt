@@ -1,30 +1,19 @@
-use Rattle.std.proofs.Common.{◌≡◌, ℕ, ◌-◌, ◌+◌, ◌*◌, ◌<◌, ◌≤◌, ◌⊎◌, inl, inr, Bool, true, false, List, [], refl, sym, ap, subst, ◌∙◌, arith, Option}
-use Rattle.std.proofs.Common.{Some, None, not, nat_lt, if◌then◌else◌}
-use Rattle.std.proofs.lemmas.Bool.Decides.{nat_tests}
-use Rattle.dali_frame.specs.{Priority.LATER, Random.MASK24, declared.frames.Forward.Forward, declared.numbers.SearchAddress.SearchAddress}
-use Rattle.dali_special.specs.{Command.frame_of, declared.command.Command.Command}
-use Rattle.dali_gear.specs.Gear.{Gear}
-use Rattle.dali_script.specs.{Records.Kept, Records.Has, Records.with_record, Stages.IsTrace, Stages.stage_of, declared.orders.End.TheVariants.BlockFull}
-use Rattle.dali_script.specs.declared.orders.Order.{Order, TheVariants.Put, TheVariants.Commit, TheVariants.Done, TheVariants.Halt}
-use Rattle.dali_script.specs.declared.records.Record.{Record, TheVariants.Reserve, TheVariants.Enrol, TheVariants.Release}
-use Rattle.dali_script.{specs.declared.stage.Stage.Stage, proofs.Found.trace_none, proofs.Transactions.stage_none}
+use Rattle.dali_progress.proofs.Below.{◌≡◌, ℕ, ◌-◌, ◌+◌, ◌*◌, ◌<◌, ◌≤◌, ◌⊎◌, inl, inr, Bool, true, false, List, [], refl, sym, ap, subst, ◌∙◌, arith, Option}
+use Rattle.dali_progress.proofs.Below.{Some, None, not, nat_lt, if◌then◌else◌, nat_tests, LATER, MASK24, Forward, SearchAddress, frame_of, Command, Gear, Kept}
+use Rattle.dali_progress.proofs.Below.{Has, with_record, IsTrace, stage_of, BlockFull, Order, Put, Commit, Done, Halt, Record, Reserve, Enrol, Release, Stage}
+use Rattle.dali_progress.proofs.Below.{trace_none, stage_none, Ascent, ascent_at_first, above, gone_on_from, one_if, Course, is_asked, turn_of, asking}
+use Rattle.dali_progress.proofs.Below.{calling_first, ask_or_call, asking_again, next_asked, going_on, going_on_early, hunting, hunting_first, hunting_above}
+use Rattle.dali_progress.proofs.Below.{searching_on, closing as closing_by, Machine, next_course, beginning, goes_on_to, asks_again, full, is_failed}
+use Rattle.dali_progress.proofs.Below.{machine_ordered, served, asked_again, Purpose, Hunting, Visiting, PassingOver, Shorts, Tally, Surveying, IsGivenBy}
+use Rattle.dali_progress.proofs.Below.{gear_of, is_wanted, wants, OpenedBy}
 use Rattle.dali_script.specs.declared.stage.Stage.TheVariants as stage
-use Rattle.dali_search.specs.Ascending.{Ascent, ascent_at_first, above, gone_on_from, one_if}
-use Rattle.dali_controller.specs.Course.{Course, is_asked, turn_of, asking, calling_first, ask_or_call, asking_again, next_asked, going_on, going_on_early}
-use Rattle.dali_controller.specs.Course.{hunting, hunting_first, hunting_above, searching_on, closing as closing_by}
-use Rattle.dali_controller.specs.{Machine.Machine, Next.next_course, Next.beginning, Next.goes_on_to, Next.asks_again, Next.full, Next.is_failed}
-use Rattle.dali_controller.specs.{Orders.machine_ordered, Tally.served, Tally.asked_again}
-use Rattle.dali_controller.specs.declared.purpose.Purpose.{Purpose, TheVariants.Hunting, TheVariants.Visiting, TheVariants.PassingOver}
-use Rattle.dali_controller.specs.declared.{shorts.Shorts.Shorts, tally.Tally.Tally, way.Way.TheVariants.Surveying}
-use Rattle.dali_controller.proofs.Given.{IsGivenBy}
 use Rattle.dali_controller.proofs.Given as given
-use Rattle.dali_events.{specs.Wanted.gear_of, specs.Wanted.is_wanted, specs.Wanted.wants, proofs.Search.Opened.OpenedBy}
 use Rattle.dali_progress.proofs.Misheard.Climbing as climbing
-use Rattle.dali_progress.{proofs.Census.Coming.{asked_later, asked_before, unasked_enrolled}, proofs.Census.Left.asked_within, proofs.Later.IsUnasked}
-use Rattle.dali_progress.{proofs.Later.{later_leaves, turn_unasked}, proofs.Misheard.Gear.{Each, AreSought, AreBare, AreKnown}}
-use Rattle.dali_progress.proofs.Misheard.Stands.{IsCounted, IsSpent, HuntStage, Rises, IsReached, IsPast, HuntAt, Hunts, EndsBy, AreTabledBelow, AreSeen}
-use Rattle.dali_progress.{proofs.Misheard.Stands.{IsCensus, KnownAt, At, MisheardStands, Calm}, proofs.Survey.Drawn.woken_short, proofs.Survey.Queried.OneShort}
-use Rattle.dali_progress.{proofs.Survey.Queried.IsTrue, proofs.Survey.Stands.AreTaken, proofs.Survey.Woken.AreLow, proofs.Surveying.{roll_first, IsClear}}
+use Rattle.dali_progress.proofs.{Census.Coming.{asked_later, asked_before, unasked_enrolled}, Census.Left.asked_within, Later.{IsUnasked, later_leaves}}
+use Rattle.dali_progress.proofs.{Later.turn_unasked, Misheard.Gear.{Each, AreSought, AreBare, AreKnown}, Misheard.Stands.{IsCounted, IsSpent, HuntStage, Rises}}
+use Rattle.dali_progress.proofs.Misheard.Stands.{IsReached, IsPast, HuntAt, Hunts, EndsBy, AreTabledBelow, AreSeen, IsCensus, KnownAt, At, MisheardStands, Calm}
+use Rattle.dali_progress.proofs.{Survey.Drawn.woken_short, Survey.Queried.{OneShort, IsTrue}, Survey.Stands.AreTaken, Survey.Woken.AreLow, Surveying.roll_first}
+use Rattle.dali_progress.proofs.{Surveying.IsClear}
 
 -- A TRANSACTION BEGINS, or goes on; and what is to come of an order.
 

@@ -1,38 +1,24 @@
-use Rattle.std.proofs.Common.{◌≡◌, ℕ, ◌+◌, ◌<◌, ◌≤◌, ◌⊎◌, inl, inr, true, false, List, [], ◌∷◌, ◌++◌, refl, sym, ap, subst, ◌∙◌, arith, length, Option, Some}
-use Rattle.std.proofs.Common.{None, ◌==◌}
-use Rattle.std.proofs.lemmas.Nat.Bits.{bit_at-zero}
-use Rattle.dali_frame.specs.declared.frames.{Answer.Answer, Forward.Forward}
-use Rattle.dali_special.specs.{Command.command_of, declared.command.Command.Command}
-use Rattle.dali_gear.specs.{Gear.Gear, Row.row_after, Row.drawn_of, declared.row.Reach.TheVariants.Everyone}
-use Rattle.dali_script.specs.{Records.Kept, Scripts.IsLawful, Stages.IsTrace, Stages.stage_of, Stages.next_stage}
-use Rattle.dali_script.specs.declared.orders.{End.End, End.TheVariants.AllFound, End.TheVariants.BlockFull, End.TheVariants.GaveUp, Input.Input, Order.Order}
-use Rattle.dali_script.specs.declared.orders.Order.TheVariants.{Put, Commit, Done, Halt}
-use Rattle.dali_script.specs.declared.records.Record.{Record, TheVariants.Reserve, TheVariants.Enrol, TheVariants.Release}
-use Rattle.dali_script.specs.declared.stage.Stage.{Stage}
-use Rattle.dali_script.proofs.{Found.trace_more, Lists.has_before, Lists.without_has, Members.has_right, Transactions.stage_more, Transactions.stage_none}
+use Rattle.dali_progress.proofs.Below.{◌≡◌, ℕ, ◌+◌, ◌<◌, ◌≤◌, ◌⊎◌, inl, inr, true, false, List, [], ◌∷◌, ◌++◌, refl, sym, ap, subst, ◌∙◌, arith, length, Option}
+use Rattle.dali_progress.proofs.Below.{Some, None, ◌==◌, bit_at-zero, Answer, Forward, command_of, Command, Gear, row_after, drawn_of, Everyone, Kept, IsLawful}
+use Rattle.dali_progress.proofs.Below.{IsTrace, stage_of, next_stage, End, AllFound, BlockFull, GaveUp, Input, Order, Put, Commit, Done, Halt, Record, Reserve}
+use Rattle.dali_progress.proofs.Below.{Enrol, Release, Stage, trace_more, has_before, without_has, has_right, stage_more, stage_none, visiting, Course, Machine}
+use Rattle.dali_progress.proofs.Below.{machine_heard, machine_surveying, machine_told, silent_after, heard_after, begins_at, at_rest, machine_ordered}
+use Rattle.dali_progress.proofs.Below.{machine_after, AfterEnrolled, has_short, IsWhole, Sends, Purpose, Shorts, IsGivenBy, Allowed, happens, entry}
+use Rattle.dali_progress.proofs.Below.{trace_running, KeepsPromiseNow, IsRun, LeavesUsed, World, controller_at, Event, row_length, IsFound, LeavesWhole}
+use Rattle.dali_progress.proofs.Below.{SiteState, world, site_logged, machine_at, IsHeardBut, IsOfRoundBut, RoundsBut, EndsWellBut, IsTrueEndBut, HasEnded}
+use Rattle.dali_progress.proofs.Below.{GoesOn, IsAlone, Succeeds, IsOfRound, Rounds, site_after}
 use Rattle.dali_script.specs.declared.orders.Input.TheVariants as input
 use Rattle.dali_script.specs.declared.stage.Stage.TheVariants as stage
-use Rattle.dali_controller.specs.{Course.visiting, Course.Course, Machine.Machine, Machine.machine_heard, Machine.machine_surveying, Machine.machine_told}
-use Rattle.dali_controller.specs.{Machine.silent_after, Machine.heard_after, Next.begins_at, Next.at_rest, Orders.machine_ordered, Orders.machine_after}
-use Rattle.dali_controller.specs.{Orders.AfterEnrolled, Shorts.has_short, Whole.IsWhole, Whole.Sends, declared.purpose.Purpose.Purpose}
-use Rattle.dali_controller.{specs.declared.shorts.Shorts.Shorts, proofs.Given.IsGivenBy}
 use Rattle.dali_controller.proofs.Given as given
-use Rattle.dali_events.specs.{Allowed.Allowed, Happens.happens, Happens.entry, Happens.trace_running, Promise.KeepsPromiseNow, Runs.IsRun, Runs.LeavesUsed}
-use Rattle.dali_events.{specs.World.World, specs.World.controller_at, specs.declared.event.Event.Event, proofs.Invariant.Takes.row_length}
 use Rattle.dali_events.specs.declared.event.Event.TheVariants as event
-use Rattle.dali_standing.specs.Seats.{IsFound, LeavesWhole}
-use Rattle.dali_world.specs.Site.{SiteState, world, site_logged, machine_at}
-use Rattle.dali_progress.specs.Misheard.{IsHeardBut, IsOfRoundBut, RoundsBut, EndsWellBut, IsTrueEndBut}
-use Rattle.dali_progress.specs.Rounds.{HasEnded, GoesOn, IsAlone, Succeeds, IsOfRound, Rounds, site_after}
 use Rattle.dali_progress.proofs.Misheard.Gear as gear
-use Rattle.dali_progress.proofs.Along.{RunsBy, runs_first, acted_to, frame_to, sent_to, ended_at, goes_by, HoldsBy, holds_next, acts_from}
-use Rattle.dali_progress.proofs.Both.{never_eight, with_kept, put_no_enrolment, not_free, no_tries, IsKnown, lawful_now, no_enrolment_now, no_enrolment_yet}
-use Rattle.dali_progress.{proofs.Both.reserved_begins, proofs.Census.Asked.sending_of, proofs.Frames.Seeks, proofs.Logged.{same_some, world_logged}}
-use Rattle.dali_progress.{proofs.Lone.{IsLone, lone_sent}, proofs.Misheard.Stands.{Calm, EndsBy, AreTabledBelow, KnownAt, At, MisheardStands}}
-use Rattle.dali_progress.{proofs.Misheard.Begins.{IsOwn, Keeps, IsNext, first_by, asks_on, hunts_on, GoesTo}, proofs.Misheard.Known.{SentTo, at_sent}}
-use Rattle.dali_progress.{proofs.Misheard.Known.known_sent, proofs.Misheard.Sent.Taken, proofs.Misheard.Visits.turned, proofs.Survey.Goes.found_sent}
-use Rattle.dali_progress.{proofs.Survey.Goes.{acted_so, promise_now, surveyed_now, IsActedSo}, proofs.Survey.Visits.rest_next, proofs.Survey.Queried.OneShort}
-use Rattle.dali_progress.{proofs.Survey.Queried.{IsTrue, IsAtHand}, proofs.Survey.Turns.IsUncontradicted}
+use Rattle.dali_progress.proofs.{Along.{RunsBy, runs_first, acted_to, frame_to, sent_to, ended_at, goes_by, HoldsBy, holds_next, acts_from}, Both.never_eight}
+use Rattle.dali_progress.proofs.Both.{with_kept, put_no_enrolment, not_free, no_tries, IsKnown, lawful_now, no_enrolment_now, no_enrolment_yet, reserved_begins}
+use Rattle.dali_progress.proofs.{Census.Asked.sending_of, Frames.Seeks, Logged.{same_some, world_logged}, Lone.{IsLone, lone_sent}, Misheard.Stands.Calm}
+use Rattle.dali_progress.proofs.{Misheard.Stands.{EndsBy, AreTabledBelow, KnownAt, At, MisheardStands}, Misheard.Begins.{IsOwn, Keeps, IsNext, first_by}}
+use Rattle.dali_progress.proofs.{Misheard.Begins.{asks_on, hunts_on, GoesTo}, Misheard.Known.{SentTo, at_sent, known_sent}, Misheard.Sent.Taken}
+use Rattle.dali_progress.proofs.{Misheard.Visits.turned, Survey.Goes.{found_sent, acted_so, promise_now, surveyed_now, IsActedSo}, Survey.Visits.rest_next}
+use Rattle.dali_progress.proofs.{Survey.Queried.{OneShort, IsTrue, IsAtHand}, Survey.Turns.IsUncontradicted}
 
 -- A SURVEY GOES ON, event by event, if gear g is misheard.
 
@@ -59,8 +45,7 @@ committed g m (Reserve a r) o gs calm v free last by one holds =
     )
 committed g m (Enrol b r) o gs calm (inr past) free last by one holds =
     hunts_on g (with_kept m (Enrol b r)) o gs calm
-    (given.enrolled (with_kept m (Enrol b r)) o b r by last free past.1) (rest_next m (Enrol b r) free last)
-    (
+    (given.enrolled (with_kept m (Enrol b r)) o b r by last free past.1) (rest_next m (Enrol b r) free last) (
       past.0.0,
       (
         gear.known_more m.kept.reserved m.kept.enrolled m.kept.reserved (m.kept.enrolled ++ (b, r) ∷ []) gs (λ x has. has)

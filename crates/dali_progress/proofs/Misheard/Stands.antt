@@ -1,20 +1,11 @@
-use Rattle.std.proofs.Common.{◌≡◌, ℕ, ◌+◌, ◌*◌, ◌<◌, ◌≤◌, ◌⊎◌, Bool, true, false, List, length, Option, Some, None, not}
-use Rattle.dali_frame.specs.{Random.value_of, Random.MASK24, declared.numbers.SearchAddress.SearchAddress}
-use Rattle.dali_gear.specs.Gear.{Gear}
-use Rattle.dali_script.specs.{Records.Assignment, Records.Kept, Records.Has, Stages.IsTrace, Stages.stage_of, declared.orders.End.End}
-use Rattle.dali_script.specs.declared.{orders.End.TheVariants.AllFound, orders.End.TheVariants.BlockFull, orders.End.TheVariants.GaveUp, stage.Stage.Stage}
+use Rattle.dali_progress.proofs.Below.{◌≡◌, ℕ, ◌+◌, ◌*◌, ◌<◌, ◌≤◌, ◌⊎◌, Bool, true, false, List, length, Option, Some, None, not, value_of, MASK24}
+use Rattle.dali_progress.proofs.Below.{SearchAddress, Gear, Assignment, Kept, Has, IsTrace, stage_of, End, AllFound, BlockFull, GaveUp, Stage, Ascent, IsAscent}
+use Rattle.dali_progress.proofs.Below.{Knows, asked_next, leads_to, one_if, Gives, Again, Found, Course, is_yes, sought, Machine, is_failed, Purpose, Opening}
+use Rattle.dali_progress.proofs.Below.{Probing, Visiting, Resolving, Closing, Hunting, Asking, Calling, Drawing, PassingOver, Shorts, Tally, Surveying, Way}
+use Rattle.dali_progress.proofs.Below.{HasShort, gear_of, is_wanted, wants, OfPowered, AreServedBut}
 use Rattle.dali_script.specs.declared.stage.Stage.TheVariants as stage
-use Rattle.dali_search.specs.Ascending.{Ascent, IsAscent, Knows, asked_next, leads_to, one_if}
-use Rattle.dali_search.specs.{Least.Gives, declared.step.Step.TheVariants.Again, declared.step.Step.TheVariants.Found}
-use Rattle.dali_controller.specs.{Course.Course, Course.is_yes, Course.sought, Machine.Machine, Next.is_failed, declared.purpose.Purpose.Purpose}
-use Rattle.dali_controller.specs.declared.purpose.Purpose.TheVariants.{Opening, Probing, Visiting, Resolving, Closing, Hunting, Asking, Calling, Drawing}
-use Rattle.dali_controller.specs.declared.{purpose.Purpose.TheVariants.PassingOver, shorts.Shorts.Shorts, tally.Tally.Tally, way.Way.TheVariants.Surveying}
-use Rattle.dali_controller.specs.declared.way.Way.{Way}
-use Rattle.dali_events.specs.{Searching.HasShort, Wanted.gear_of, Wanted.is_wanted, Wanted.wants, Wanted.OfPowered}
-use Rattle.dali_progress.specs.Misheard.{AreServedBut}
-use Rattle.dali_progress.proofs.Misheard.Gear.{Each, AreSought, AreBare, AreBareBut, HaveDrawn, AreKnown, HasOne}
-use Rattle.dali_progress.proofs.{Stands.CloseStage, Stands.HaveShort, Survey.Stands.AreTaken, Survey.Woken.AreLow}
-use Rattle.dali_progress.proofs.Surveying.{IsRollCall, IsDraw, IsAskedOf, IsClear}
+use Rattle.dali_progress.proofs.{Misheard.Gear.{Each, AreSought, AreBare, AreBareBut, HaveDrawn, AreKnown, HasOne}, Stands.{CloseStage, HaveShort}}
+use Rattle.dali_progress.proofs.{Survey.Stands.AreTaken, Survey.Woken.AreLow, Surveying.{IsRollCall, IsDraw, IsAskedOf, IsClear}}
 
 -- HOW FAR A SURVEY IS, if gear g is misheard and nothing else is disturbed. No frames are counted; what its end says is true.
 

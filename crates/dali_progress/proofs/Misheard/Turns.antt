@@ -1,31 +1,19 @@
-use Rattle.std.proofs.Common.{◌≡◌, ℕ, ◌+◌, ◌*◌, ◌<◌, ◌≤◌, ◌⊎◌, inl, inr, Bool, true, false, List, [], ◌∷◌, ◌++◌, refl, sym, ap, subst, ◌∙◌, arith, Some, None}
-use Rattle.std.proofs.Common.{◌==◌, ◌&&◌, not, nat_lt, if◌then◌else◌}
-use Rattle.std.proofs.lemmas.Bool.Decides.{nat_tests}
-use Rattle.dali_frame.specs.{Random.MASK24, declared.frames.Answer.Answer, declared.numbers.SearchAddress.SearchAddress}
-use Rattle.dali_gear.specs.Gear.{Gear}
-use Rattle.dali_script.specs.{Findings.finding_of, Records.Assignment, Records.Kept, Records.Has, Records.HasAddress, Records.IsKept, Records.IsFresh}
-use Rattle.dali_script.specs.{Records.MayAdd, Records.with_record, Stages.stage_of, Stages.finding_at, declared.finding.Finding.TheVariants.Resolved}
-use Rattle.dali_script.specs.declared.orders.{End.TheVariants.AllFound, End.TheVariants.GaveUp, Order.Order, Order.TheVariants.Put, Order.TheVariants.Commit}
-use Rattle.dali_script.specs.declared.{orders.Order.TheVariants.Done, orders.Order.TheVariants.Halt, records.Record.TheVariants.Enrol, stage.Stage.Stage}
-use Rattle.dali_script.proofs.{Lists.has_before, Lists.has_last, Members.same_member}
+use Rattle.dali_progress.proofs.Below.{◌≡◌, ℕ, ◌+◌, ◌*◌, ◌<◌, ◌≤◌, ◌⊎◌, inl, inr, Bool, true, false, List, [], ◌∷◌, ◌++◌, refl, sym, ap, subst, ◌∙◌, arith}
+use Rattle.dali_progress.proofs.Below.{Some, None, ◌==◌, ◌&&◌, not, nat_lt, if◌then◌else◌, nat_tests, MASK24, Answer, SearchAddress, Gear, finding_of}
+use Rattle.dali_progress.proofs.Below.{Assignment, Kept, Has, HasAddress, IsKept, IsFresh, MayAdd, with_record, stage_of, finding_at, Resolved, AllFound}
+use Rattle.dali_progress.proofs.Below.{GaveUp, Order, Put, Commit, Done, Halt, Enrol, Stage, has_before, has_last, same_member, one_if, Course, call_turn}
+use Rattle.dali_progress.proofs.Below.{is_yes, turn_of, calling, opening_at_last, closing as closing_by, searching_first, Machine, next_course, begins_at}
+use Rattle.dali_progress.proofs.Below.{beginning, asked_once, blocked, is_blocked, full, has_open, may_draw, is_failed, machine_ordered, AfterFinding, IsSought}
+use Rattle.dali_progress.proofs.Below.{has_short, heard_call, silent_call, IsWhole, Purpose, Asking, Calling, Shorts, Tally, IsGivenBy, IsNoEnrolment, gear_of}
 use Rattle.dali_script.specs.declared.stage.Stage.TheVariants as stage
-use Rattle.dali_search.specs.Ascending.{one_if}
-use Rattle.dali_controller.specs.Course.{Course, call_turn, is_yes, turn_of, calling, opening_at_last, closing as closing_by, searching_first}
-use Rattle.dali_controller.specs.{Machine.Machine, Next.next_course, Next.begins_at, Next.beginning, Next.asked_once, Next.blocked, Next.is_blocked, Next.full}
-use Rattle.dali_controller.specs.{Next.has_open, Next.may_draw, Next.is_failed, Orders.machine_ordered, Orders.AfterFinding, Orders.IsSought, Shorts.has_short}
-use Rattle.dali_controller.specs.{Tally.heard_call, Tally.silent_call, Whole.IsWhole, declared.purpose.Purpose.Purpose}
-use Rattle.dali_controller.specs.declared.{purpose.Purpose.TheVariants.Asking, purpose.Purpose.TheVariants.Calling, shorts.Shorts.Shorts, tally.Tally.Tally}
-use Rattle.dali_controller.proofs.Given.{IsGivenBy, IsNoEnrolment}
 use Rattle.dali_controller.proofs.Given as given
-use Rattle.dali_events.specs.Wanted.{gear_of}
 use Rattle.dali_events.proofs.Search.Wanted as wanted
 use Rattle.dali_progress.proofs.Misheard.Gear as gear
-use Rattle.dali_progress.{proofs.Both.{never_eight, has_address}, proofs.Misheard.Begins.{KeepsAsked, IsOwn, Keeps, first_by, asks_on, one_most, hunts_first}}
-use Rattle.dali_progress.{proofs.Misheard.Begins.GoesTo, proofs.Misheard.Gear.{AreKnown, HasOne}, proofs.Misheard.Stands.{IsSpent, Asks, Calls, Draws}}
-use Rattle.dali_progress.proofs.Misheard.Stands.{AreTabledBelow, AreSeen, IsCensus, Census, KnownAt, EndsBy, MisheardStands}
-use Rattle.dali_progress.{proofs.Survey.Begins.{begins_whole, all_taken}, proofs.Survey.Hunting.nothing_open, proofs.Survey.Queried.{Holds, one_gear, IsAtHand}}
-use Rattle.dali_progress.{proofs.Survey.Stands.AreTaken, proofs.Survey.Turns.{IsUncontradicted, silent_next, heard_next}, proofs.Surveying.roll_first}
-use Rattle.dali_progress.proofs.Surveying.{called_short, roll_over, IsClear}
+use Rattle.dali_progress.proofs.{Both.{never_eight, has_address}, Misheard.Begins.{KeepsAsked, IsOwn, Keeps, first_by, asks_on, one_most, hunts_first, GoesTo}}
+use Rattle.dali_progress.proofs.{Misheard.Gear.{AreKnown, HasOne}, Misheard.Stands.{IsSpent, Asks, Calls, Draws, AreTabledBelow, AreSeen, IsCensus, Census}}
+use Rattle.dali_progress.proofs.{Misheard.Stands.{KnownAt, EndsBy, MisheardStands}, Survey.Begins.{begins_whole, all_taken}, Survey.Hunting.nothing_open}
+use Rattle.dali_progress.proofs.{Survey.Queried.{Holds, one_gear, IsAtHand}, Survey.Stands.AreTaken, Survey.Turns.{IsUncontradicted, silent_next, heard_next}}
+use Rattle.dali_progress.proofs.Surveying.{roll_first, called_short, roll_over, IsClear}
 
 -- A CONTROLLER ACTS on what it was told, and what it orders goes on with the survey.
 

@@ -1,40 +1,29 @@
-use Rattle.std.proofs.Common.{◌≡◌, ℕ, ◌+◌, ◌-◌, ◌*◌, ◌<◌, ◌≤◌, ◌⊎◌, inl, inr, Bool, true, false, List, refl, sym, ap, subst, ◌∙◌, arith, length, Option, Some}
-use Rattle.std.proofs.Common.{None, ◌==◌, not, nat_lt, MatchOption, if◌then◌else◌}
-use Rattle.std.proofs.lemmas.Bool.Decides.{nat_tests}
-use Rattle.dali_frame.specs.{Priority.LATER, Random.value_of, Random.MASK24, declared.frames.Answer.Answer, declared.numbers.SearchAddress.SearchAddress}
-use Rattle.dali_special.specs.{Command.frame_of, declared.command.Command.Command, declared.command.Command.TheVariants.Program}
-use Rattle.dali_gear.specs.{Gear.Gear, declared.state.InitialisationState.TheVariants.Enabled}
-use Rattle.dali_script.specs.{Records.Has, Records.HasRandom, Records.IsFresh, Records.MayAdd, Stages.stage_of, declared.finding.Finding.TheVariants.Queried}
-use Rattle.dali_script.specs.declared.orders.{End.TheVariants.BlockFull, End.TheVariants.GaveUp, Order.Order}
-use Rattle.dali_script.specs.declared.orders.Order.TheVariants.{Put, Commit, Done, Halt}
-use Rattle.dali_script.specs.declared.stage.Stage.{Stage}
+use Rattle.dali_progress.proofs.Below.{◌≡◌, ℕ, ◌+◌, ◌-◌, ◌*◌, ◌<◌, ◌≤◌, ◌⊎◌, inl, inr, Bool, true, false, List, refl, sym, ap, subst, ◌∙◌, arith, length}
+use Rattle.dali_progress.proofs.Below.{Option, Some, None, ◌==◌, not, nat_lt, MatchOption, if◌then◌else◌, nat_tests, LATER, value_of, MASK24, Answer}
+use Rattle.dali_progress.proofs.Below.{SearchAddress, frame_of, Command, Program, Gear, Enabled, Has, HasRandom, IsFresh, MayAdd, stage_of, Queried, BlockFull}
+use Rattle.dali_progress.proofs.Below.{GaveUp, Order, Put, Commit, Done, Halt, Stage, Ascent, Knows, IsAscent, ascent_at_first, asked_next, leads_to, ascended}
+use Rattle.dali_progress.proofs.Below.{one_if, Gives, Again, Found, Nobody, Course, is_yes, byte_to_send, bytes_to_send, address_for, least_open, turn_of}
+use Rattle.dali_progress.proofs.Below.{ask_or_call, asking_again, next_asked, calling, drawing, opening_anew, closing as closing_by, hunting, visiting}
+use Rattle.dali_progress.proofs.Below.{passing_over, missed, hunted, Machine, is_withheld, next_course, begins_at, beginning, course_by, hunted_to, nobody_left}
+use Rattle.dali_progress.proofs.Below.{undrawn, full, asks_again, has_open, may_draw, silenced, silenced_on, missed_again, is_failed, unanswered, most_silent}
+use Rattle.dali_progress.proofs.Below.{question, is_hunting, machine_ordered, AfterFinding, AfterMaskOn, AfterMaskBy, AfterReserved, asked_again, passed_over}
+use Rattle.dali_progress.proofs.Below.{drew, IsWhole, Purpose, Opening, Probing, Visiting, Resolving, Closing, Hunting, Asking, Calling, Drawing, PassingOver}
+use Rattle.dali_progress.proofs.Below.{Tally, IsGivenBy, IsNoEnrolment, HasShort, gear_of, is_wanted, wants, AreServedBut}
+use Rattle.dali_search.specs.declared.step.Step.{Step}
 use Rattle.dali_script.specs.declared.stage.Stage.TheVariants as stage
-use Rattle.dali_search.specs.Ascending.{Ascent, Knows, IsAscent, ascent_at_first, asked_next, leads_to, ascended, one_if}
-use Rattle.dali_search.specs.{Least.Gives, declared.step.Step.Step}
-use Rattle.dali_search.specs.declared.step.Step.TheVariants.{Again, Found, Nobody}
-use Rattle.dali_controller.specs.Course.{Course, is_yes, byte_to_send, bytes_to_send, address_for, least_open, turn_of, ask_or_call, asking_again, next_asked}
-use Rattle.dali_controller.specs.Course.{calling, drawing, opening_anew, closing as closing_by, hunting, visiting, passing_over, missed, hunted}
-use Rattle.dali_controller.specs.Machine.{Machine, is_withheld}
-use Rattle.dali_controller.specs.Next.{next_course, begins_at, beginning, course_by, hunted_to, nobody_left, undrawn, full, asks_again, has_open, may_draw}
-use Rattle.dali_controller.specs.Next.{silenced, silenced_on, missed_again, is_failed, unanswered, most_silent, question, is_hunting}
-use Rattle.dali_controller.specs.{Orders.machine_ordered, Orders.AfterFinding, Orders.AfterMaskOn, Orders.AfterMaskBy, Orders.AfterReserved, Tally.asked_again}
-use Rattle.dali_controller.specs.{Tally.passed_over, Tally.drew, Whole.IsWhole, declared.purpose.Purpose.Purpose, declared.purpose.Purpose.TheVariants.Opening}
-use Rattle.dali_controller.specs.declared.purpose.Purpose.TheVariants.{Probing, Visiting, Resolving, Closing, Hunting, Asking, Calling, Drawing, PassingOver}
-use Rattle.dali_controller.{specs.declared.tally.Tally.Tally, proofs.Given.IsGivenBy, proofs.Given.IsNoEnrolment}
 use Rattle.dali_controller.proofs.Given as given
-use Rattle.dali_events.specs.{Searching.HasShort, Wanted.gear_of, Wanted.is_wanted, Wanted.wants}
 use Rattle.dali_events.proofs.Search.Wanted as wanted
 use Rattle.dali_progress.proofs.Misheard.Climbing as climbing
 use Rattle.dali_progress.proofs.Misheard.Stands as stands
-use Rattle.dali_progress.{specs.Misheard.AreServedBut, proofs.Accounted.open_is, proofs.Both.{never_eight, close_ends}, proofs.Frames.value_sought}
-use Rattle.dali_progress.proofs.Misheard.Begins.{KeepsPast, IsOwn, IsNext, later_by, turns_by, first_by, fills, hunts_above, hunts_on, GoesTo}
-use Rattle.dali_progress.proofs.Misheard.Stands.{Calm, AreSeen, IsCounted, Rises, IsReached, IsOfOne, Visits, Hunts, At, Draws, MisheardStands, IsCountedFor}
-use Rattle.dali_progress.{proofs.Misheard.Gear.{AreSought, AreBare, HaveDrawn, HasOne}, proofs.Misheard.Turns.{found_at, known_as, own_by, census_turns}}
-use Rattle.dali_progress.{proofs.Misheard.Turns.{calling_turns, drawn_turns}, proofs.Survey.Begins.{clear_reserved, nobody_elses, begins_whole, all_taken}}
-use Rattle.dali_progress.{proofs.Survey.Drawn.{AreNumbered, DrewApart}, proofs.Survey.Hunting.{found_same, begins_by, nothing_open, later_asked, vain_next}}
-use Rattle.dali_progress.{proofs.Survey.Hunting.{asked_where, hunted_next}, proofs.Survey.Queried.IsAtHand, proofs.Survey.Rising.knows_told}
-use Rattle.dali_progress.{proofs.Survey.Stands.AreTaken, proofs.Survey.Turns.IsUncontradicted, proofs.Survey.Visits.{found_address, withheld_anothers}}
-use Rattle.dali_progress.{proofs.Survey.Visits.ungiven_next, proofs.Survey.Woken.AreLow, proofs.Surveying.{NoneDrawn, roll_first, IsDraws, draw_over}}
+use Rattle.dali_progress.proofs.{Accounted.open_is, Both.{never_eight, close_ends}, Frames.value_sought, Misheard.Begins.{KeepsPast, IsOwn, IsNext, later_by}}
+use Rattle.dali_progress.proofs.{Misheard.Begins.{turns_by, first_by, fills, hunts_above, hunts_on, GoesTo}, Misheard.Stands.{Calm, AreSeen, IsCounted, Rises}}
+use Rattle.dali_progress.proofs.{Misheard.Stands.{IsReached, IsOfOne, Visits, Hunts, At, Draws, MisheardStands, IsCountedFor}, Misheard.Gear.AreSought}
+use Rattle.dali_progress.proofs.{Misheard.Gear.{AreBare, HaveDrawn, HasOne}, Misheard.Turns.{found_at, known_as, own_by, census_turns, calling_turns}}
+use Rattle.dali_progress.proofs.{Misheard.Turns.drawn_turns, Survey.Begins.{clear_reserved, nobody_elses, begins_whole, all_taken}, Survey.Drawn.AreNumbered}
+use Rattle.dali_progress.proofs.{Survey.Drawn.DrewApart, Survey.Hunting.{found_same, begins_by, nothing_open, later_asked, vain_next, asked_where, hunted_next}}
+use Rattle.dali_progress.proofs.{Survey.Queried.IsAtHand, Survey.Rising.knows_told, Survey.Stands.AreTaken, Survey.Turns.IsUncontradicted}
+use Rattle.dali_progress.proofs.{Survey.Visits.{found_address, withheld_anothers, ungiven_next}, Survey.Woken.AreLow, Surveying.{NoneDrawn, roll_first}}
+use Rattle.dali_progress.proofs.Surveying.{IsDraws, draw_over}
 
 -- A CONTROLLER ACTS while gear are hunted and visited, and at its close; and in whatever transaction.
 

@@ -1,26 +1,18 @@
-use Rattle.std.proofs.Common.{◌≡◌, ℕ, ◌+◌, ◌<◌, inl, Bool, true, false, List, [], ◌∷◌, ◌++◌, append-nil, append_assoc, refl, sym, ap, subst, ◌∙◌, length, arith}
-use Rattle.std.proofs.Common.{zero, suc, Some, None, map, get_or, ◌==◌, ◌&&◌, if◌then◌else◌, ◌≤◌, inr, Option, set, get_or-set_same, get_or-set_other}
-use Rattle.std.{proofs.lemmas.Bool.Decides.nat_tests, specs.List.AllByRecursion, specs.Option.option_map}
-use Rattle.dali_frame.{specs.declared.frames.Answer.Answer, specs.declared.frames.Answer.TheVariants.Silence, specs.declared.frames.Forward.Forward}
-use Rattle.dali_special.{specs.Command.command_of, specs.declared.command.Command.Command, specs.declared.command.Command.TheVariants.RandomByte}
-use Rattle.dali_special.{specs.declared.command.Part.TheVariants.High}
-use Rattle.dali_gear.{specs.Row.{answers_of, heard_of}, specs.declared.row.Reach.TheVariants.Everyone}
-use Rattle.dali_script.{specs.Records.{InBlock, without_records}, specs.declared.block.Block.Block, specs.declared.orders.Input.Input}
-use Rattle.dali_script.{specs.declared.orders.Order.Order, proofs.Members.mapped_from}
-use Rattle.dali_controller.{specs.Machine.{at_first, Machine}, specs.Orders.machine_after}
-use Rattle.dali_events.{specs.Allowed.{Allowed, IsActed, IsDue}, specs.Plan.{Plan, IsPlan, block_at}, specs.Promise.KeepsPromise, specs.Runs.IsRun}
-use Rattle.dali_events.{specs.Runs.LeavesUsed, specs.World.{controller_at, controller_begun, nobody, World, Controller}, specs.declared.event.Event.Event}
-use Rattle.dali_events.{specs.Happens.come_up, proofs.Invariant.Agreeing.used_kept, proofs.Invariant.Safe.keeps_promise, proofs.Search.Heard.nobody_answers}
-use Rattle.dali_standing.{specs.Standing.{machines_at, machine_in, machines_after}, specs.Seats.Waits, proofs.InUse.leaves_acted}
-use Rattle.dali_world.{specs.Site.{SiteState, opened_site, world, site_logged, IsActRefused, machines, machine_at}, proofs.Rolls.{none_set, by_place}}
-use Rattle.dali_progress.{specs.Rounds.site_after, specs.Spared.{HearsUsed, IsOfCall, AreOfCalls, HasJustBegun, IsUsedOf, BeginsBySurveys, asks_first}}
-use Rattle.dali_progress.{specs.Spared.{is_silence, silences_after, IsHeardInTime, AsksInPeace, AllAskInPeace, HasAsked, StaysBegun}, proofs.Logged.run_logged}
-use Rattle.dali_progress.{proofs.Logged.{machines_logged, some_within}, proofs.Spared.Calls.{IsLivedAt, counts_after, none_yet, lived_on, opened_lived}}
-use Rattle.dali_progress.proofs.Spared.Calls.{start_block, lived_leaves, unrefused, Heeds, heeded_on, just_lived, lived_all, unrefused_now, some_same}
-use Rattle.dali_progress.{proofs.Spared.Calls.{counts_more, counts_still}, proofs.Spared.Lives.{lives_more, IsFair, IsFewAt, unstarted_unopened}}
+use Rattle.dali_progress.proofs.Below.{◌≡◌, ℕ, ◌+◌, ◌<◌, inl, Bool, true, false, List, [], ◌∷◌, ◌++◌, append-nil, append_assoc, refl, sym, ap, subst, ◌∙◌}
+use Rattle.dali_progress.proofs.Below.{length, arith, zero, suc, Some, None, map, get_or, ◌==◌, ◌&&◌, if◌then◌else◌, ◌≤◌, inr, Option, set, get_or-set_same}
+use Rattle.dali_progress.proofs.Below.{get_or-set_other, nat_tests, AllByRecursion, option_map, Answer, Silence, Forward, command_of, Command, RandomByte, High}
+use Rattle.dali_progress.proofs.Below.{answers_of, heard_of, Everyone, InBlock, without_records, Block, Input, Order, mapped_from, at_first, Machine}
+use Rattle.dali_progress.proofs.Below.{machine_after, Allowed, IsActed, IsDue, Plan, IsPlan, block_at, KeepsPromise, IsRun, LeavesUsed, controller_at}
+use Rattle.dali_progress.proofs.Below.{controller_begun, nobody, World, Controller, Event, come_up, used_kept, keeps_promise, nobody_answers, machines_at}
+use Rattle.dali_progress.proofs.Below.{machine_in, machines_after, Waits, leaves_acted, SiteState, opened_site, world, site_logged, IsActRefused, machines}
+use Rattle.dali_progress.proofs.Below.{machine_at, none_set, by_place, site_after, HearsUsed, IsOfCall, AreOfCalls, HasJustBegun, IsUsedOf, BeginsBySurveys}
+use Rattle.dali_progress.proofs.Below.{asks_first, is_silence, silences_after, IsHeardInTime, AsksInPeace, AllAskInPeace, HasAsked, StaysBegun}
 use Rattle.dali_script.specs.declared.orders.Input.TheVariants as input
 use Rattle.dali_events.specs.declared.event.Event.TheVariants as event
 use Rattle.dali_standing.specs.declared.refusal.Refusal.TheVariants as refusal
+use Rattle.dali_progress.proofs.{Logged.{run_logged, machines_logged, some_within}, Spared.Calls.{IsLivedAt, counts_after, none_yet, lived_on, opened_lived}}
+use Rattle.dali_progress.proofs.Spared.Calls.{start_block, lived_leaves, unrefused, Heeds, heeded_on, just_lived, lived_all, unrefused_now, some_same}
+use Rattle.dali_progress.proofs.{Spared.Calls.{counts_more, counts_still}, Spared.Lives.{lives_more, IsFair, IsFewAt, unstarted_unopened}}
 
 -- WHO IS ASKED IN PEACE IS HEARD: a used gear that has power answers, and nothing disturbs its answer.
 

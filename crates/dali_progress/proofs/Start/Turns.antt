@@ -1,37 +1,24 @@
-use Rattle.std.proofs.Common.{◌≡◌, ℕ, ◌+◌, ◌*◌, ◌-◌, ◌<◌, ◌≤◌, ◌⊎◌, inl, inr, Bool, true, false, zero, suc, List, [], ◌∷◌, ◌++◌, refl, sym, ap, subst, ◌∙◌}
-use Rattle.std.proofs.Common.{arith, length, length-append, nat_lt, Some, None, ◌==◌, if◌then◌else◌}
-use Rattle.std.{proofs.lemmas.Bool.Decides.nat_tests, specs.List.count_by}
-use Rattle.dali_frame.specs.{Priority.LATER, Random.value_of, Random.MASK24, declared.numbers.SearchAddress.SearchAddress}
-use Rattle.dali_special.specs.Command.{command_of, frame_of, IsSpelled}
-use Rattle.dali_special.{specs.declared.command.Command.Command, specs.declared.command.Command.TheVariants.Program, proofs.Table.read_written}
-use Rattle.dali_gear.specs.Gear.{Gear, fresh}
-use Rattle.dali_script.specs.Findings.{finding_of}
-use Rattle.dali_script.specs.Records.{Assignment, Kept, Has, HasRandom, IsKept, IsMap, with_record}
-use Rattle.dali_script.specs.{Stages.IsTrace, Stages.stage_of, Stages.finding_at, declared.orders.End.End, declared.orders.End.TheVariants.BlockFull}
-use Rattle.dali_script.specs.declared.orders.Order.{Order, TheVariants.Put, TheVariants.Commit, TheVariants.Done, TheVariants.Halt}
-use Rattle.dali_script.specs.declared.{records.Record.Record, records.Record.TheVariants.Reserve, records.Record.TheVariants.Enrol, stage.Stage.Stage}
-use Rattle.dali_script.proofs.{Found.trace_none, Lists.has_cases, Members.has_left, Members.same_member, Transactions.stage_none}
+use Rattle.dali_progress.proofs.Below.{◌≡◌, ℕ, ◌+◌, ◌*◌, ◌-◌, ◌<◌, ◌≤◌, ◌⊎◌, inl, inr, Bool, true, false, zero, suc, List, [], ◌∷◌, ◌++◌, refl, sym, ap, subst}
+use Rattle.dali_progress.proofs.Below.{◌∙◌, arith, length, length-append, nat_lt, Some, None, ◌==◌, if◌then◌else◌, nat_tests, count_by, LATER, value_of, MASK24}
+use Rattle.dali_progress.proofs.Below.{SearchAddress, command_of, frame_of, IsSpelled, Command, Program, read_written, Gear, fresh, finding_of, Assignment}
+use Rattle.dali_progress.proofs.Below.{Kept, Has, HasRandom, IsKept, IsMap, with_record, IsTrace, stage_of, finding_at, End, BlockFull, Order, Put, Commit}
+use Rattle.dali_progress.proofs.Below.{Done, Halt, Record, Reserve, Enrol, Stage, trace_none, has_cases, has_left, same_member, stage_none, Search, Agrees}
+use Rattle.dali_progress.proofs.Below.{Says, NumberOf, lowest, highest, answered, step_between, IsNarrowing, Again, Found, Nobody, agrees_more, Course}
+use Rattle.dali_progress.proofs.Below.{first_of, turn_of, is_yes, closing_of, searching_anew, visiting, probed, after_step, closing as closing_by}
+use Rattle.dali_progress.proofs.Below.{opening as opening_of, unfinished_at, unfinished_among, visit_or_opening, going_on, searching_first, searching_on}
+use Rattle.dali_progress.proofs.Below.{Machine, next_course, begins_at, at_rest, beginning, goes_on_to, ungiven, machine_ordered, Contradicts, AfterFinding}
+use Rattle.dali_progress.proofs.Below.{Purpose, Opening, Probing, Visiting, Closing, Fresh, keeps_fresh, goes_on_fresh, IsGivenBy, IsNoEnrolment, HasShort}
+use Rattle.dali_progress.proofs.Below.{is_wanted, wants, is_bare, OfPowered, IsOpened, NoneNamed, EndsWell, AreTabled}
+use Rattle.dali_search.specs.declared.step.Step.{Step}
 use Rattle.dali_script.specs.declared.stage.Stage.TheVariants as stage
-use Rattle.dali_search.specs.Least.{Search, Agrees, Says, NumberOf, lowest, highest, answered, step_between}
-use Rattle.dali_search.specs.{Narrowing.IsNarrowing, declared.step.Step.Step, declared.step.Step.TheVariants.Again, declared.step.Step.TheVariants.Found}
-use Rattle.dali_search.{specs.declared.step.Step.TheVariants.Nobody, proofs.Agreement.agrees_more}
 use Rattle.dali_search.proofs.Answered as searching
-use Rattle.dali_controller.specs.Course.{Course, first_of, turn_of, is_yes, closing_of, searching_anew, visiting, probed, after_step, closing as closing_by}
-use Rattle.dali_controller.specs.Course.{opening as opening_of, unfinished_at, unfinished_among, visit_or_opening, going_on, searching_first, searching_on}
-use Rattle.dali_controller.specs.{Machine.Machine, Next.next_course, Next.begins_at, Next.at_rest, Next.beginning, Next.goes_on_to, Next.ungiven}
-use Rattle.dali_controller.specs.Orders.{machine_ordered, Contradicts, AfterFinding}
-use Rattle.dali_controller.specs.declared.purpose.Purpose.{Purpose, TheVariants.Opening, TheVariants.Probing, TheVariants.Visiting, TheVariants.Closing}
-use Rattle.dali_controller.specs.declared.way.Way.TheVariants.{Fresh}
-use Rattle.dali_controller.proofs.{Courses.keeps_fresh, Courses.goes_on_fresh, Given.IsGivenBy, Given.IsNoEnrolment}
 use Rattle.dali_controller.proofs.Given as given
-use Rattle.dali_events.specs.{Searching.HasShort, Wanted.is_wanted, Wanted.wants, Wanted.is_bare, Wanted.OfPowered, Wanted.IsOpened, Wanted.NoneNamed}
 use Rattle.dali_events.proofs.Search.Opened as opening
 use Rattle.dali_events.proofs.Search.Wanted as wanted
-use Rattle.dali_progress.{specs.Ends.EndsWell, specs.Ends.AreTabled, proofs.Both.with_kept, proofs.Both.never_eight}
-use Rattle.dali_progress.proofs.Both.{drawn_number, has_address, entry_last, visits_first, frames_reserved, enrolled_begins, reserved_begins, no_enrolment_yet}
-use Rattle.dali_progress.proofs.{Both.entry_twice, Frames.nobody_short, Later.IsUnasked, Later.later_leaves, Later.turn_unasked, Stands.to_come}
-use Rattle.dali_progress.proofs.Stands.{search_frames, probe_frames, Opens, Probes, VisitFrames, Visits, Leaves, VisitsAt, Closes, At, IsWithin, Stands, Sends}
-use Rattle.dali_progress.proofs.Tables.{tabled_over}
+use Rattle.dali_progress.proofs.Both.{with_kept, never_eight, drawn_number, has_address, entry_last, visits_first, frames_reserved, enrolled_begins}
+use Rattle.dali_progress.proofs.{Both.{reserved_begins, no_enrolment_yet, entry_twice}, Frames.nobody_short, Later.{IsUnasked, later_leaves, turn_unasked}}
+use Rattle.dali_progress.proofs.Stands.{to_come, search_frames, probe_frames, Opens, Probes, VisitFrames, Visits, Leaves, VisitsAt, Closes, At, IsWithin}
+use Rattle.dali_progress.proofs.{Stands.{Stands, Sends}, Tables.tabled_over}
 
 -- A CONTROLLER ACTS on what it was told, and what it orders goes on with the commissioning.
 

@@ -1,20 +1,14 @@
-use Rattle.std.proofs.Common.{true, false, ◌≡◌, ℕ, ◌<◌, List, [], refl, sym, ap, subst, ◌∙◌, length, length-set, get_or-set_same, Some, None, if◌then◌else◌}
-use Rattle.std.{proofs.Common.{◌∷◌, Option}, specs.List.AllByRecursion}
-use Rattle.dali_arbiter.specs.Arbiter.{Arbiter, idle, bus_silenced, owns}
-use Rattle.dali_script.{specs.declared.orders.End.End, specs.declared.orders.Input.Input, specs.declared.orders.Order.Order}
-use Rattle.dali_script.{specs.declared.orders.Order.TheVariants.Commit, specs.declared.records.Record.Record, specs.Records.Kept}
-use Rattle.dali_controller.specs.Machine.{Machine, at_first}
-use Rattle.dali_events.{specs.Allowed.{IsUp, IsDown, Allowed, IsDue, IsCommit}, specs.Happens.{happens, gone_down, come_up, kept_after}, specs.Runs.IsRun}
-use Rattle.dali_events.{specs.World.{World, Controller, controller_at, nobody}, specs.declared.event.Event.Event}
-use Rattle.dali_standing.{specs.Standing.machine_in}
-use Rattle.dali_world.specs.Site.{SiteState, world, site_logged, machines, machine_at}
-use Rattle.dali_progress.{specs.Rounds.{site_after, HasEnded, IsAlone, restarted, Rounds, BySurvey, IsOfRound, most_frames, bare}, specs.Ends.CommitsNothing}
-use Rattle.dali_progress.{specs.Ends.{NamesAll, table_at}, proofs.Beginnings.{runs_after, named}, proofs.Logged.{world_logged, run_logged, machines_logged}}
-use Rattle.dali_progress.{proofs.Logged.some_within, proofs.Lone.{still, Rests, acted_there, sent_there, lone_next}, proofs.Survey.Goes.{EndsBy, ended_by}}
-use Rattle.dali_progress.{proofs.Survey.Goes.{of_survey, argument, began_at, starts}, proofs.Survey.Stands.Begun, proofs.Along.{Runs, runs_on}}
-use Rattle.dali_frame.{specs.declared.frames.Answer.Answer, specs.declared.frames.Forward.Forward}
+use Rattle.dali_progress.proofs.Below.{true, false, ◌≡◌, ℕ, ◌<◌, List, [], refl, sym, ap, subst, ◌∙◌, length, length-set, get_or-set_same, Some, None}
+use Rattle.dali_progress.proofs.Below.{if◌then◌else◌, ◌∷◌, Option, AllByRecursion, Arbiter, idle, bus_silenced, owns, End, Input, Order, Commit, Record, Kept}
+use Rattle.dali_progress.proofs.Below.{Machine, at_first, IsUp, IsDown, Allowed, IsDue, IsCommit, happens, gone_down, come_up, kept_after, IsRun, World}
+use Rattle.dali_progress.proofs.Below.{Controller, controller_at, nobody, Event, machine_in, SiteState, world, site_logged, machines, machine_at, site_after}
+use Rattle.dali_progress.proofs.Below.{HasEnded, IsAlone, restarted, Rounds, BySurvey, IsOfRound, most_frames, bare, CommitsNothing, NamesAll, table_at, Answer}
+use Rattle.dali_progress.proofs.Below.{Forward}
 use Rattle.dali_events.specs.declared.event.Event.TheVariants as event
 use Rattle.dali_script.specs.declared.orders.Input.TheVariants as input
+use Rattle.dali_progress.proofs.{Beginnings.{runs_after, named}, Logged.{world_logged, run_logged, machines_logged, some_within}, Lone.{still, Rests}}
+use Rattle.dali_progress.proofs.{Lone.{acted_there, sent_there, lone_next}, Survey.Goes.{EndsBy, ended_by, of_survey, argument, began_at, starts}}
+use Rattle.dali_progress.proofs.{Survey.Stands.Begun, Along.{Runs, runs_on}}
 
 -- A CONTROLLER THAT ENDED A SURVEY, and comes up again, surveys alone once more.
 

@@ -1,35 +1,22 @@
-use Rattle.std.proofs.Common.{◌≡◌, ℕ, ◌+◌, ◌-◌, ◌*◌, ◌<◌, ◌≤◌, ◌⊎◌, inl, inr, Bool, true, false, zero, suc, List, [], ◌∷◌, ◌++◌, refl, sym, ap, subst, ◌∙◌}
-use Rattle.std.proofs.Common.{arith, Option, Some, None, min, ◌==◌, ◌&&◌, ◌||◌, not, is_some, MatchOption, if◌then◌else◌}
-use Rattle.std.{proofs.lemmas.Bool.Decides.nat_tests, specs.List.count_by}
-use Rattle.dali_frame.specs.{Priority.FIRST, Priority.LATER, Random.MASK24, declared.frames.Forward.Forward, declared.numbers.SearchAddress.SearchAddress}
-use Rattle.dali_special.specs.{Command.frame_of, Command.command_of, declared.command.Command.Command}
-use Rattle.dali_gear.specs.Gear.{Gear}
-use Rattle.dali_script.specs.{Findings.finding_of, Records.Assignment, Records.Kept, Records.Has, Records.HasAddress, Records.with_record, Stages.IsTrace}
-use Rattle.dali_script.specs.{Stages.stage_of, declared.orders.Order.Order}
-use Rattle.dali_script.specs.declared.orders.Order.TheVariants.{Put, Commit, Done, Halt}
-use Rattle.dali_script.specs.declared.records.Record.{Record, TheVariants.Reserve, TheVariants.Enrol, TheVariants.Release}
-use Rattle.dali_script.{specs.declared.stage.Stage.Stage, proofs.Found.trace_none, proofs.Lists.has_map, proofs.Lists.has_cases, proofs.Transactions.stage_none}
+use Rattle.dali_progress.proofs.Below.{◌≡◌, ℕ, ◌+◌, ◌-◌, ◌*◌, ◌<◌, ◌≤◌, ◌⊎◌, inl, inr, Bool, true, false, zero, suc, List, [], ◌∷◌, ◌++◌, refl, sym, ap, subst}
+use Rattle.dali_progress.proofs.Below.{◌∙◌, arith, Option, Some, None, min, ◌==◌, ◌&&◌, ◌||◌, not, is_some, MatchOption, if◌then◌else◌, nat_tests, count_by}
+use Rattle.dali_progress.proofs.Below.{FIRST, LATER, MASK24, Forward, SearchAddress, frame_of, command_of, Command, Gear, finding_of, Assignment, Kept, Has}
+use Rattle.dali_progress.proofs.Below.{HasAddress, with_record, IsTrace, stage_of, Order, Put, Commit, Done, Halt, Record, Reserve, Enrol, Release, Stage}
+use Rattle.dali_progress.proofs.Below.{trace_none, has_map, has_cases, stage_none, Ascent, IsAscent, asked_next, leads_to, ascent_at_first, above, gone_on_from}
+use Rattle.dali_progress.proofs.Below.{Found, Course, turn_of, number_at, is_open, open_among, least_open, is_another, is_anothers, is_asked, next_asked}
+use Rattle.dali_progress.proofs.Below.{ask_or_call, asking, calling_first, going_on, going_on_early, sought, hunting, hunting_first, searching_on, Machine}
+use Rattle.dali_progress.proofs.Below.{next_course, course_by, beginning, goes_on_to, BeginsWith, machine_ordered, asked_by, IsAllowed, IsCaused, has_short}
+use Rattle.dali_progress.proofs.Below.{served, IsWhole, Sends as SendsWhole, Purpose, Hunting, Visiting, Asking as Counting, Shorts, found_number, IsGivenBy}
+use Rattle.dali_progress.proofs.Below.{IsNoEnrolment, is_bare, is_wanted, wants, IsOpened, NoneNamed, SameCore, AreTabled, IsSettled}
 use Rattle.dali_script.specs.declared.orders.Fault.TheVariants as fault
 use Rattle.dali_script.specs.declared.stage.Stage.TheVariants as stage
-use Rattle.dali_search.specs.Ascending.{Ascent, IsAscent, asked_next, leads_to, ascent_at_first, above, gone_on_from}
-use Rattle.dali_search.specs.declared.step.Step.TheVariants.{Found}
-use Rattle.dali_controller.specs.Course.{Course, turn_of, number_at, is_open, open_among, least_open, is_another, is_anothers, is_asked, next_asked}
-use Rattle.dali_controller.specs.Course.{ask_or_call, asking, calling_first, going_on, going_on_early, sought, hunting, hunting_first, searching_on}
-use Rattle.dali_controller.specs.{Machine.Machine, Next.next_course, Next.course_by, Next.beginning, Next.goes_on_to, Next.BeginsWith, Orders.machine_ordered}
-use Rattle.dali_controller.specs.{Orders.asked_by, Orders.IsAllowed, Orders.IsCaused, Shorts.has_short, Tally.served, Whole.IsWhole, Whole.Sends as SendsWhole}
-use Rattle.dali_controller.specs.declared.purpose.Purpose.{Purpose, TheVariants.Hunting, TheVariants.Visiting, TheVariants.Asking as Counting}
-use Rattle.dali_controller.specs.declared.shorts.Shorts.{Shorts}
-use Rattle.dali_controller.proofs.{Courses.found_number, Given.IsGivenBy, Given.IsNoEnrolment}
 use Rattle.dali_controller.proofs.Given as given
-use Rattle.dali_events.specs.Wanted.{is_bare, is_wanted, wants, IsOpened, NoneNamed}
-use Rattle.dali_events.proofs.Search.Leaving.{SameCore}
-use Rattle.dali_progress.{specs.Ends.AreTabled, specs.Rounds.IsSettled, proofs.Both.never_eight, proofs.Census.Asked.sending_of}
-use Rattle.dali_progress.{proofs.Census.Coming.{asked_later, asked_before, unasked_enrolled, from_next}, proofs.Census.Left.asked_within}
-use Rattle.dali_progress.{proofs.Later.{IsUnasked, later_leaves, turn_unasked, course_stays}, proofs.Survey.Drawn.{those_drawn, is_lost, bare_split}}
-use Rattle.dali_progress.{proofs.Survey.Queried.{OneShort, IsTrue, AreOwned, TabledBelow, unseen, below_all, below_named}, proofs.Survey.Rising.rises_so}
-use Rattle.dali_progress.{proofs.Survey.Rising.{rises_first, rises_above}, proofs.Survey.Stands.{Begun, survey_frames, Counts, IsUncalled, IsCalledFor}}
+use Rattle.dali_progress.proofs.{Both.never_eight, Census.Asked.sending_of, Census.Coming.{asked_later, asked_before, unasked_enrolled, from_next}}
+use Rattle.dali_progress.proofs.{Census.Left.asked_within, Later.{IsUnasked, later_leaves, turn_unasked, course_stays}, Survey.Drawn.{those_drawn, is_lost}}
+use Rattle.dali_progress.proofs.{Survey.Drawn.bare_split, Survey.Queried.{OneShort, IsTrue, AreOwned, TabledBelow, unseen, below_all, below_named}}
+use Rattle.dali_progress.proofs.{Survey.Rising.{rises_so, rises_first, rises_above}, Survey.Stands.{Begun, survey_frames, Counts, IsUncalled, IsCalledFor}}
 use Rattle.dali_progress.proofs.Survey.Stands.{called_after, hunted_after, roll_frames, frames_after, Rises, HuntAt, Hunts, AreTaken, SurveyEnds, IsSmooth}
-use Rattle.dali_progress.{proofs.Survey.Stands.{SurveyAt, SurveyStands, IsHunted, Calm}, proofs.Surveying.{roll_first, IsClear}}
+use Rattle.dali_progress.proofs.{Survey.Stands.{SurveyAt, SurveyStands, IsHunted, Calm}, Surveying.{roll_first, IsClear}}
 
 -- A TRANSACTION OF A SURVEY BEGINS, or goes on; and what is to come of an order.
 

@@ -1,36 +1,25 @@
-use Rattle.std.proofs.Common.{◌≡◌, ℕ, ◌+◌, ◌*◌, ◌<◌, ◌≤◌, inl, inr, Bool, true, false, zero, suc, List, refl, sym, ap, subst, ◌∙◌, arith, Option, Some, None}
-use Rattle.std.proofs.Common.{◌==◌, ◌&&◌, nat_lt, if◌then◌else◌, is_some}
-use Rattle.std.{proofs.lemmas.Bool.Decides.nat_tests, specs.List.count_by}
-use Rattle.dali_frame.specs.{Priority.LATER, Random.MASK24}
-use Rattle.dali_frame.specs.declared.{frames.Answer.Answer, frames.Forward.Forward, numbers.SearchAddress.SearchAddress}
-use Rattle.dali_special.specs.{Command.frame_of, declared.command.Command.Command}
-use Rattle.dali_gear.specs.Gear.{Gear}
-use Rattle.dali_script.specs.{Stages.stage_of, declared.orders.End.TheVariants.BlockFull}
-use Rattle.dali_script.specs.declared.{orders.End.TheVariants.GaveUp, orders.Order.Order, orders.Order.TheVariants.Put, stage.Stage.Stage}
+use Rattle.dali_progress.proofs.Below.{◌≡◌, ℕ, ◌+◌, ◌*◌, ◌<◌, ◌≤◌, inl, inr, Bool, true, false, zero, suc, List, refl, sym, ap, subst, ◌∙◌, arith, Option, Some}
+use Rattle.dali_progress.proofs.Below.{None, ◌==◌, ◌&&◌, nat_lt, if◌then◌else◌, is_some, nat_tests, count_by, LATER, MASK24, Answer, Forward, SearchAddress}
+use Rattle.dali_progress.proofs.Below.{frame_of, Command, Gear, stage_of, BlockFull, GaveUp, Order, Put, Stage, Ascent, asked_next, ascended, leads_to}
+use Rattle.dali_progress.proofs.Below.{asking_next, room_left, Again, Found, Nobody, Course, is_yes, least_open, sought, byte_to_send, next_unfinished}
+use Rattle.dali_progress.proofs.Below.{searching_first, asking_again, turn_of, bytes_to_send, hunting, hunted, visiting, calling, drawing}
+use Rattle.dali_progress.proofs.Below.{closing as closing_by, Machine, next_course, begins_at, beginning, has_open, hunted_to, is_hunting, question, asks_again}
+use Rattle.dali_progress.proofs.Below.{full, undrawn, nobody_left, compared_in, asked_on, course_on, machine_ordered, asked_by, Hunting, IsGivenBy}
+use Rattle.dali_progress.proofs.Below.{IsNoEnrolment, HasShort, IsOpened, NoneNamed, gear_of, is_wanted, is_bare, OfPowered, AreTabled, IsSettled}
+use Rattle.dali_search.specs.Questions.{Asking}
+use Rattle.dali_search.specs.declared.step.Step.{Step}
 use Rattle.dali_script.specs.declared.stage.Stage.TheVariants as stage
-use Rattle.dali_search.specs.Ascending.{Ascent, asked_next, ascended, leads_to}
-use Rattle.dali_search.specs.Questions.{Asking, asking_next, room_left}
-use Rattle.dali_search.specs.declared.step.Step.{Step, TheVariants.Again, TheVariants.Found, TheVariants.Nobody}
 use Rattle.dali_search.specs.Questions as questions
-use Rattle.dali_controller.specs.Course.{Course, is_yes, least_open, sought, byte_to_send, next_unfinished, searching_first, asking_again, turn_of}
-use Rattle.dali_controller.specs.Course.{bytes_to_send, hunting, hunted, visiting, calling, drawing, closing as closing_by}
-use Rattle.dali_controller.specs.{Machine.Machine, Next.next_course, Next.begins_at, Next.beginning}
-use Rattle.dali_controller.specs.Next.{has_open, hunted_to, is_hunting, question, asks_again, full, undrawn, nobody_left, compared_in, asked_on, course_on}
-use Rattle.dali_controller.specs.{Orders.machine_ordered, Orders.asked_by, declared.purpose.Purpose.TheVariants.Hunting}
-use Rattle.dali_controller.proofs.Given.{IsGivenBy, IsNoEnrolment}
 use Rattle.dali_controller.proofs.Given as given
-use Rattle.dali_events.specs.{Searching.HasShort, Wanted.IsOpened, Wanted.NoneNamed, Wanted.gear_of, Wanted.is_wanted, Wanted.is_bare, Wanted.OfPowered}
 use Rattle.dali_events.proofs.Search.Opened as opening
 use Rattle.dali_events.proofs.Search.Wanted as wanted
-use Rattle.dali_progress.specs.{Ends.AreTabled, Rounds.IsSettled}
-use Rattle.dali_progress.{proofs.Both.{never_eight, visits_first}, proofs.Frames.value_sought, proofs.Stands.search_frames, proofs.Survey.Stands.Calm}
-use Rattle.dali_progress.proofs.Survey.Stands.{IsHunted, Begun, IsCalledFor, Draws, called_after, hunted_after, roll_frames, frames_after, Rises, Hunts}
-use Rattle.dali_progress.{proofs.Survey.Stands.{IsSmooth, SurveyStands}, proofs.Survey.Begins.{IsNext, first_by, hunts_by, hunts_first, hunted_some}}
-use Rattle.dali_progress.{proofs.Survey.Begins.{called_roll, all_taken, GoesTo}, proofs.Survey.Drawn.{those_drawn, is_undrawn, is_lost, bare_split}}
-use Rattle.dali_progress.{proofs.Survey.Drawn.{drawn_tabled, tabled_drawn, kept_at, drawn_length, undrawn_random}, proofs.Survey.Queried.unseen}
-use Rattle.dali_progress.proofs.Survey.Rising.{bytes_same, Answered, answered_rise, rises_new, rises_in, IsReachedAt, rise_found, rise_nobody}
-use Rattle.dali_progress.{proofs.Survey.Turns.found_at, proofs.Survey.Woken.{none_bare, opened_lost, drawn_is, drawn_none_named}, proofs.Surveying.NoneDrawn}
-use Rattle.dali_progress.proofs.Surveying.{draw_left, roll_first, IsClear}
+use Rattle.dali_progress.proofs.{Both.{never_eight, visits_first}, Frames.value_sought, Stands.search_frames, Survey.Stands.{Calm, IsHunted, Begun}}
+use Rattle.dali_progress.proofs.Survey.Stands.{IsCalledFor, Draws, called_after, hunted_after, roll_frames, frames_after, Rises, Hunts, IsSmooth, SurveyStands}
+use Rattle.dali_progress.proofs.{Survey.Begins.{IsNext, first_by, hunts_by, hunts_first, hunted_some, called_roll, all_taken, GoesTo}, Survey.Drawn.those_drawn}
+use Rattle.dali_progress.proofs.Survey.Drawn.{is_undrawn, is_lost, bare_split, drawn_tabled, tabled_drawn, kept_at, drawn_length, undrawn_random}
+use Rattle.dali_progress.proofs.{Survey.Queried.unseen, Survey.Rising.{bytes_same, Answered, answered_rise, rises_new, rises_in, IsReachedAt, rise_found}}
+use Rattle.dali_progress.proofs.{Survey.Rising.rise_nobody, Survey.Turns.found_at, Survey.Woken.{none_bare, opened_lost, drawn_is, drawn_none_named}}
+use Rattle.dali_progress.proofs.Surveying.{NoneDrawn, draw_left, roll_first, IsClear}
 
 -- A CONTROLLER THAT SURVEYS ACTS, while gear draw, and while it searches.
 

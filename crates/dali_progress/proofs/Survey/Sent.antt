@@ -1,35 +1,26 @@
-use Rattle.std.proofs.Common.{◌≡◌, ℕ, ◌+◌, ◌*◌, ◌<◌, ◌≤◌, inl, inr, true, false, suc, List, refl, sym, ap, subst, ◌∙◌, arith, Bool, zero, ◌-◌, [], ◌∷◌, Option}
-use Rattle.std.{proofs.Common.{Some, None, if◌then◌else◌, ◌%◌, nat_lt, ◌&&◌}, proofs.lemmas.Bool.Decides.nat_tests, specs.List.count_by}
-use Rattle.dali_frame.{specs.Random.{value_of, MASK24}, specs.declared.frames.Answer.Answer, specs.declared.frames.Answer.TheVariants.{Silence, Byte, Damaged}}
-use Rattle.dali_frame.{specs.declared.numbers.SearchAddress.SearchAddress}
-use Rattle.dali_special.{specs.declared.command.Command.Command, specs.declared.command.Command.TheVariants.{Withdraw, SearchHigh, SearchMiddle, SearchLow}}
-use Rattle.dali_special.{specs.declared.command.Command.TheVariants.{QueryShort, Terminate, RandomByte}, specs.declared.command.Part.TheVariants.{High, Middle}}
-use Rattle.dali_special.{specs.declared.command.Part.TheVariants.Low}
-use Rattle.dali_gear.{specs.Gear.{Gear, draws_a_number}, specs.Row.{row_after, takes, left_after, drawn_one, drawn_of, answers_of, heard_of}}
-use Rattle.dali_gear.{specs.declared.row.Reach.TheVariants.Everyone, proofs.RowLemmas.needs_none}
-use Rattle.dali_script.{specs.Records.{Kept, Has}, specs.Stages.{next_stage, queried, verified, byte_heard, number_heard}, specs.declared.stage.Stage.Stage}
-use Rattle.dali_script.{specs.declared.orders.End.End, specs.declared.orders.End.TheVariants.{AllFound, BlockFull, GaveUp}, proofs.Transactions.middle_next}
-use Rattle.dali_script.{proofs.Transactions.low_next}
-use Rattle.dali_search.{specs.Ascending.{Ascent, asked_next}, specs.Least.at_first}
-use Rattle.dali_controller.{specs.declared.purpose.Purpose.Purpose, specs.declared.purpose.Purpose.TheVariants.{Visiting, Hunting, Calling, Drawing, Opening}}
-use Rattle.dali_controller.{specs.declared.purpose.Purpose.TheVariants.{Probing, Resolving, Closing, Asking, PassingOver}, specs.declared.shorts.Shorts.Shorts}
-use Rattle.dali_controller.{specs.Course.{Course, sought}, specs.Machine.{heard_after, asked_after, asked_after_silence, asked_at, marked_at}}
-use Rattle.dali_events.{specs.Wanted.{wants, is_wanted, is_bare}, proofs.Search.Leaving.{SameCore, LeavesCore, LeavesShort}}
-use Rattle.dali_progress.{proofs.Frames.{Seeks, IsTaken, one_less, at_sent, value_sought}, proofs.Later.{queried_by, verified_by}, proofs.Stands.search_frames}
-use Rattle.dali_progress.{proofs.Stands.{VisitFrames, VisitsAt, Sends, visit_by, some_is, to_come}, proofs.Survey.Stands.{IsBehind, IsLeastAt, IsReached}}
-use Rattle.dali_progress.proofs.Survey.Stands.{HuntAt, Begun, roll_frames, Calls, Draws, survey_frames, silent_left, asked_left, Counts, AskCount, called_after}
-use Rattle.dali_progress.proofs.Survey.Stands.{hunted_after, frames_after, IsCalledFor, surplus, Hunts, SurveyEnds, SurveyCloses, SurveyAt}
-use Rattle.dali_progress.{proofs.Survey.Begins.{roll_some, roll_none}, proofs.Survey.Drawn.{those_drawn, is_lost, AreNumbered, IsSearching, IsSoughtBy}}
-use Rattle.dali_progress.proofs.Survey.Drawn.{not_randomise, row_drawn, answers_drawn, searching_of, no_draw, still_of, lost_same, seek_drawn, apart_drawn}
-use Rattle.dali_progress.{proofs.Survey.Drawn.DrewApart, proofs.Survey.Queried.{unseen, core_then, holds_back, IsAtHand, below_on}}
-use Rattle.dali_progress.{proofs.Survey.Rising.{rises_sent, rising_one, rising_tabled, rising_sought}, proofs.Survey.Woken.{bare_after, lost_after, drew_after}}
-use Rattle.dali_progress.{proofs.Survey.Woken.{IsByteLow, low_after, all_left}, proofs.Surveying.{IsTakenBut, RollSent, DrawSent, call_sent, draw_left}}
-use Rattle.dali_progress.{proofs.Surveying.{roll_sent, draw_sent, draws_short, draws_tabled, AskedAt, asked_sent}, proofs.Tables.{tabled_left, IsTabledTo}}
-use Rattle.dali_progress.{proofs.Tables.at_tabled, specs.Ends.AreTabled}
+use Rattle.dali_progress.proofs.Below.{◌≡◌, ℕ, ◌+◌, ◌*◌, ◌<◌, ◌≤◌, inl, inr, true, false, suc, List, refl, sym, ap, subst, ◌∙◌, arith, Bool, zero, ◌-◌, [], ◌∷◌}
+use Rattle.dali_progress.proofs.Below.{Option, Some, None, if◌then◌else◌, ◌%◌, nat_lt, ◌&&◌, nat_tests, count_by, value_of, MASK24, Answer, Silence, Byte}
+use Rattle.dali_progress.proofs.Below.{Damaged, SearchAddress, Command, Withdraw, SearchHigh, SearchMiddle, SearchLow, QueryShort, Terminate, RandomByte, High}
+use Rattle.dali_progress.proofs.Below.{Middle, Low, Gear, draws_a_number, row_after, takes, left_after, drawn_one, drawn_of, answers_of, heard_of, Everyone}
+use Rattle.dali_progress.proofs.Below.{needs_none, Kept, Has, next_stage, queried, verified, byte_heard, number_heard, Stage, End, AllFound, BlockFull, GaveUp}
+use Rattle.dali_progress.proofs.Below.{middle_next, low_next, Ascent, asked_next, Purpose, Visiting, Hunting, Calling, Drawing, Opening, Probing, Resolving}
+use Rattle.dali_progress.proofs.Below.{Closing, Asking, PassingOver, Shorts, Course, sought, heard_after, asked_after, asked_after_silence, asked_at, marked_at}
+use Rattle.dali_progress.proofs.Below.{wants, is_wanted, is_bare, SameCore, LeavesCore, LeavesShort, AreTabled}
+use Rattle.dali_search.specs.Least.{at_first}
 use Rattle.dali_script.specs.declared.stage.Stage.TheVariants as stage
 use Rattle.dali_events.proofs.Search.Leaving as leaving
 use Rattle.dali_events.proofs.Search.Programming as programming
 use Rattle.dali_events.proofs.Search.Withdrawing as withdrawing
+use Rattle.dali_progress.proofs.{Frames.{Seeks, IsTaken, one_less, at_sent, value_sought}, Later.{queried_by, verified_by}, Stands.{search_frames, VisitFrames}}
+use Rattle.dali_progress.proofs.{Stands.{VisitsAt, Sends, visit_by, some_is, to_come}, Survey.Stands.{IsBehind, IsLeastAt, IsReached, HuntAt, Begun}}
+use Rattle.dali_progress.proofs.Survey.Stands.{roll_frames, Calls, Draws, survey_frames, silent_left, asked_left, Counts, AskCount, called_after, hunted_after}
+use Rattle.dali_progress.proofs.{Survey.Stands.{frames_after, IsCalledFor, surplus, Hunts, SurveyEnds, SurveyCloses, SurveyAt}, Survey.Begins.roll_some}
+use Rattle.dali_progress.proofs.{Survey.Begins.roll_none, Survey.Drawn.{those_drawn, is_lost, AreNumbered, IsSearching, IsSoughtBy, not_randomise, row_drawn}}
+use Rattle.dali_progress.proofs.Survey.Drawn.{answers_drawn, searching_of, no_draw, still_of, lost_same, seek_drawn, apart_drawn, DrewApart}
+use Rattle.dali_progress.proofs.{Survey.Queried.{unseen, core_then, holds_back, IsAtHand, below_on}, Survey.Rising.{rises_sent, rising_one, rising_tabled}}
+use Rattle.dali_progress.proofs.{Survey.Rising.rising_sought, Survey.Woken.{bare_after, lost_after, drew_after, IsByteLow, low_after, all_left}}
+use Rattle.dali_progress.proofs.Surveying.{IsTakenBut, RollSent, DrawSent, call_sent, draw_left, roll_sent, draw_sent, draws_short, draws_tabled, AskedAt}
+use Rattle.dali_progress.proofs.{Surveying.asked_sent, Tables.{tabled_left, IsTabledTo, at_tabled}}
 
 -- THE GEAR THAT IS VISITED is the least that is wanted; and how many gear are behind: that are counted with more frames than
 -- the search needs for them.

@@ -1,26 +1,17 @@
-use Rattle.std.proofs.Common.{◌≡◌, ℕ, ◌+◌, ◌-◌, ◌*◌, ◌<◌, ◌≤◌, ◌⊎◌, inl, inr, Bool, true, false, zero, suc, List, [], ◌∷◌, ◌++◌, refl, sym, ap, subst, ◌∙◌}
-use Rattle.std.proofs.Common.{arith, Some, None, ◌==◌, ◌&&◌, not, nat_lt, if◌then◌else◌}
-use Rattle.std.{proofs.lemmas.Bool.Decides.nat_tests, specs.List.count_by}
-use Rattle.dali_frame.specs.{Random.MASK24, declared.frames.Answer.Answer, declared.numbers.SearchAddress.SearchAddress}
-use Rattle.dali_gear.specs.Gear.{Gear}
-use Rattle.dali_script.specs.{Findings.assigned, Findings.finding_of, Records.Has, Stages.stage_of, Stages.finding_at}
-use Rattle.dali_script.specs.declared.{finding.Finding.Finding, finding.Finding.TheVariants.Resolved, orders.End.TheVariants.AllFound, orders.Order.Order}
-use Rattle.dali_script.specs.declared.orders.Order.TheVariants.{Put, Commit, Done, Halt}
-use Rattle.dali_script.{specs.declared.records.Record.TheVariants.Enrol, specs.declared.stage.Stage.Stage, proofs.Lists.has_last, proofs.Lists.has_before}
+use Rattle.dali_progress.proofs.Below.{◌≡◌, ℕ, ◌+◌, ◌-◌, ◌*◌, ◌<◌, ◌≤◌, ◌⊎◌, inl, inr, Bool, true, false, zero, suc, List, [], ◌∷◌, ◌++◌, refl, sym, ap, subst}
+use Rattle.dali_progress.proofs.Below.{◌∙◌, arith, Some, None, ◌==◌, ◌&&◌, not, nat_lt, if◌then◌else◌, nat_tests, count_by, MASK24, Answer, SearchAddress, Gear}
+use Rattle.dali_progress.proofs.Below.{assigned, finding_of, Has, stage_of, finding_at, Finding, Resolved, AllFound, Order, Put, Commit, Done, Halt, Enrol}
+use Rattle.dali_progress.proofs.Below.{Stage, has_last, has_before, Course, call_turn, calling, closing, hunting_first, is_yes, turn_of, Machine, next_course}
+use Rattle.dali_progress.proofs.Below.{begins_at, beginning, asked_once, called_to, compared_in, blocked, is_blocked, machine_ordered, asked_by, Contradicts}
+use Rattle.dali_progress.proofs.Below.{AfterFinding, IsSought, none_passed, is_some_passed, heard_call, silent_call, IsWhole, Asking, Calling, Tally, IsGivenBy}
+use Rattle.dali_progress.proofs.Below.{IsNoEnrolment, gear_of, is_wanted, is_bare, IsOpened, NoneNamed}
 use Rattle.dali_script.specs.declared.stage.Stage.TheVariants as stage
-use Rattle.dali_controller.specs.Course.{Course, call_turn, calling, closing, hunting_first, is_yes, turn_of}
-use Rattle.dali_controller.specs.{Machine.Machine, Next.next_course, Next.begins_at, Next.beginning, Next.asked_once, Next.called_to, Next.compared_in}
-use Rattle.dali_controller.specs.{Next.blocked, Next.is_blocked, Orders.machine_ordered, Orders.asked_by, Orders.Contradicts, Orders.AfterFinding}
-use Rattle.dali_controller.specs.{Orders.IsSought, Tally.none_passed, Tally.is_some_passed, Tally.heard_call, Tally.silent_call, Whole.IsWhole}
-use Rattle.dali_controller.specs.declared.{purpose.Purpose.TheVariants.Asking, purpose.Purpose.TheVariants.Calling, tally.Tally.Tally}
-use Rattle.dali_controller.proofs.Given.{IsGivenBy, IsNoEnrolment}
 use Rattle.dali_controller.proofs.Given as given
-use Rattle.dali_events.specs.Wanted.{gear_of, is_wanted, is_bare, IsOpened, NoneNamed}
 use Rattle.dali_events.proofs.Search.Wanted as wanted
 use Rattle.dali_progress.proofs.Survey.Begins.{first_by, begins_whole, asked_none, asks_on, hunts_first, roll_some, roll_none, GoesTo}
 use Rattle.dali_progress.proofs.Survey.Drawn.{those_drawn, is_lost, AreNumbered, bare_split, woken_opened, woken_none_named, tabled_drawn}
-use Rattle.dali_progress.{proofs.Survey.Queried.{Holds, OneShort, IsTrue, unseen, below_next, IsAtHand, one_gear}, proofs.Survey.Stands.{Begun, survey_frames}}
-use Rattle.dali_progress.{proofs.Survey.Stands.{silent_left, Counts, IsUncalled, Calls, hunted_after, SurveyAt, SurveyStands}, proofs.Survey.Woken.all_short}
+use Rattle.dali_progress.proofs.{Survey.Queried.{Holds, OneShort, IsTrue, unseen, below_next, IsAtHand, one_gear}, Survey.Stands.{Begun, survey_frames}}
+use Rattle.dali_progress.proofs.{Survey.Stands.{silent_left, Counts, IsUncalled, Calls, hunted_after, SurveyAt, SurveyStands}, Survey.Woken.all_short}
 use Rattle.dali_progress.proofs.Surveying.{IsCalledBy, roll_first, roll_over}
 
 -- A CONTROLLER THAT SURVEYS ACTS on what it was told, and what it orders goes on with the survey.

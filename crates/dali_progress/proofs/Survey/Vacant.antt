@@ -1,33 +1,22 @@
-use Rattle.std.proofs.Common.{ℕ, List, [], ◌∷◌, sym, subst, ◌∙◌, true, ◌≡◌, ◌<◌, ◌⊎◌, inl, inr, Bool, false, refl, ap, length, Option, Some, None, ◌==◌}
-use Rattle.std.{proofs.Common.{if◌then◌else◌, ◌+◌, ◌≤◌, suc, arith, ◌||◌}, proofs.lemmas.Nat.Bits.bit_at-zero, specs.List.count_by}
-use Rattle.dali_events.{specs.Allowed.Allowed, specs.Happens.{happens, entry}, specs.Plan.{block_at, Plan}, specs.World.{World, controller_at}}
-use Rattle.dali_events.{specs.declared.event.Event.Event, specs.Wanted.{gear_of, is_bare, OfPowered}, specs.Searching.HasShort}
-use Rattle.dali_events.proofs.Search.Wanted.{same_number, number_same, is_bare_by, bare_is, count_less}
-use Rattle.dali_world.{specs.Site.{SiteState, world, site_logged, machine_at}, proofs.Logs.records_now}
-use Rattle.dali_progress.specs.Rounds.{Rounds, IsOfRound, site_after, Succeeds, IsAlone, HasEnded, BySurvey, IsSettled, IsSettledAt, most_frames, bare}
-use Rattle.dali_progress.{specs.Replaced.HasVacant, proofs.Along.{Runs, runs_on, RunsAll, runs_all}, proofs.Gives.{Gives, gives_self, gives_then, frame_gives}}
-use Rattle.dali_progress.{proofs.Gives.bare_before, proofs.Logged.{world_logged, same_some, block_now}, proofs.Lone.{lone_next, Moment, IsDueOf, acts_by}}
-use Rattle.dali_progress.{proofs.Lone.{due_of, ended_rests}, proofs.Survey.Goes.{of_survey, argument, sends_now, one_now, EndsBy, began_at, starts, ended_by}}
-use Rattle.dali_progress.{proofs.Survey.Goes.true_now, proofs.Survey.Stands.{Begun, Counts, SurveyAt, SurveyEnds, AreTaken}, proofs.Survey.Queried.Holds}
-use Rattle.dali_progress.{proofs.Survey.Queried.{Nobody, OneGear, one_gear}, proofs.Survey.Drawn.count_first, proofs.Stands.{some_is, Sends}}
-use Rattle.dali_progress.{proofs.Surveying.{heard_high, with_other, without_same, without_other}, proofs.Beginnings.runs_after}
-use Rattle.dali_frame.{specs.Random.{high_of, MASK24}, specs.declared.frames.Answer.Answer, specs.declared.frames.Answer.TheVariants.{Silence, Byte, Damaged}}
-use Rattle.dali_frame.{specs.declared.numbers.SearchAddress.SearchAddress}
-use Rattle.dali_special.{specs.Command.command_of, specs.declared.command.Command.Command, specs.declared.command.Command.TheVariants.RandomByte}
-use Rattle.dali_special.specs.declared.command.Part.TheVariants.{High, Middle, Low}
-use Rattle.dali_gear.{specs.Gear.{Gear, has_short as is_short}, specs.Row.{row_after, answers_of, heard_of}, specs.declared.row.Reach.TheVariants.Everyone}
-use Rattle.dali_script.{specs.Due.{frame_put, record_ordered}, specs.Records.{Kept, Assignment, Has, HasAddress, InBlock, IsOnce}, specs.Stages.stage_of}
-use Rattle.dali_script.{specs.Stages.next_stage, specs.declared.block.Block.Block, specs.declared.orders.End.End}
-use Rattle.dali_script.{specs.declared.orders.End.TheVariants.{AllFound, BlockFull, GaveUp}, specs.declared.orders.Input.Input}
-use Rattle.dali_script.{specs.declared.orders.Order.Order, specs.declared.records.Record.Record, specs.declared.stage.Stage.Stage}
-use Rattle.dali_script.{proofs.Transactions.{middle_next, low_next, stage_more}, proofs.Members.mapped_from}
-use Rattle.dali_controller.{specs.Machine.{Machine, machine_heard, machine_told, machine_committed, heard_after, marked_at, at_first}, specs.Shorts.has_short}
-use Rattle.dali_controller.{specs.Shorts.{with_short, without_short}, specs.declared.purpose.Purpose.Purpose, specs.declared.purpose.Purpose.TheVariants.Asking}
-use Rattle.dali_controller.{specs.declared.shorts.Shorts.Shorts}
-use Rattle.dali_standing.{specs.Seats.informed_by}
+use Rattle.dali_progress.proofs.Below.{ℕ, List, [], ◌∷◌, sym, subst, ◌∙◌, true, ◌≡◌, ◌<◌, ◌⊎◌, inl, inr, Bool, false, refl, ap, length, Option, Some, None}
+use Rattle.dali_progress.proofs.Below.{◌==◌, if◌then◌else◌, ◌+◌, ◌≤◌, suc, arith, ◌||◌, bit_at-zero, count_by, Allowed, happens, entry, block_at, Plan, World}
+use Rattle.dali_progress.proofs.Below.{controller_at, Event, gear_of, is_bare, OfPowered, HasShort, same_number, number_same, is_bare_by, bare_is, count_less}
+use Rattle.dali_progress.proofs.Below.{SiteState, world, site_logged, machine_at, records_now, Rounds, IsOfRound, site_after, Succeeds, IsAlone, HasEnded}
+use Rattle.dali_progress.proofs.Below.{BySurvey, IsSettled, IsSettledAt, most_frames, bare, HasVacant, high_of, MASK24, Answer, Silence, Byte, Damaged}
+use Rattle.dali_progress.proofs.Below.{SearchAddress, command_of, Command, RandomByte, High, Middle, Low, Gear, row_after, answers_of, heard_of, Everyone}
+use Rattle.dali_progress.proofs.Below.{frame_put, record_ordered, Kept, Assignment, Has, HasAddress, InBlock, IsOnce, stage_of, next_stage, Block, End}
+use Rattle.dali_progress.proofs.Below.{AllFound, BlockFull, GaveUp, Input, Order, Record, Stage, middle_next, low_next, stage_more, mapped_from, Machine}
+use Rattle.dali_progress.proofs.Below.{machine_heard, machine_told, machine_committed, heard_after, marked_at, at_first, has_short, with_short, without_short}
+use Rattle.dali_progress.proofs.Below.{Purpose, Asking, Shorts, informed_by}
+use Rattle.dali_gear.specs.Gear.{has_short as is_short}
 use Rattle.dali_events.specs.declared.event.Event.TheVariants as event
 use Rattle.dali_script.specs.declared.stage.Stage.TheVariants as stage
 use Rattle.dali_progress.proofs.Drawing as staying
+use Rattle.dali_progress.proofs.{Along.{Runs, runs_on, RunsAll, runs_all}, Gives.{Gives, gives_self, gives_then, frame_gives, bare_before}, Logged.world_logged}
+use Rattle.dali_progress.proofs.{Logged.{same_some, block_now}, Lone.{lone_next, Moment, IsDueOf, acts_by, due_of, ended_rests}, Survey.Goes.of_survey}
+use Rattle.dali_progress.proofs.{Survey.Goes.{argument, sends_now, one_now, EndsBy, began_at, starts, ended_by, true_now}, Survey.Stands.{Begun, Counts}}
+use Rattle.dali_progress.proofs.{Survey.Stands.{SurveyAt, SurveyEnds, AreTaken}, Survey.Queried.{Holds, Nobody, OneGear, one_gear}, Survey.Drawn.count_first}
+use Rattle.dali_progress.proofs.{Stands.{some_is, Sends}, Surveying.{heard_high, with_other, without_same, without_other}, Beginnings.runs_after}
 
 -- WHO IS GIVEN A SHORT ADDRESS in a whole survey of one controller alone.
 

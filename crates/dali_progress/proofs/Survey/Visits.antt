@@ -1,34 +1,24 @@
-use Rattle.std.proofs.Common.{◌≡◌, ℕ, ◌+◌, ◌-◌, ◌*◌, ◌<◌, ◌≤◌, ◌⊎◌, inl, inr, Bool, true, false, List, [], ◌∷◌, ◌++◌, refl, sym, ap, subst, ◌∙◌, arith, Option}
-use Rattle.std.{proofs.Common.{Some, None, ◌==◌, if◌then◌else◌, suc, ◌&&◌, nat_lt, is_some, MatchOption}, specs.List.count_by}
-use Rattle.dali_frame.{specs.Priority.LATER, specs.Random.{value_of, MASK24}, specs.declared.numbers.SearchAddress.SearchAddress}
-use Rattle.dali_gear.{specs.Gear.Gear}
-use Rattle.dali_script.{specs.Records.{Assignment, Has, IsMap, with_record, Kept, HasRandom, IsKept}, specs.Stages.stage_of, specs.declared.orders.Input.Input}
-use Rattle.dali_script.{specs.declared.orders.Order.Order, specs.declared.orders.Order.TheVariants.{Put, Commit, Done, Halt}}
-use Rattle.dali_script.{specs.declared.orders.End.TheVariants.BlockFull, specs.declared.records.Record.Record}
-use Rattle.dali_script.{specs.declared.records.Record.TheVariants.{Reserve, Enrol, Release}, specs.declared.finding.Finding.TheVariants.Queried}
-use Rattle.dali_script.{specs.declared.stage.Stage.Stage, proofs.Lists.{has_last, has_before, has_cases, without_has, has_map}, proofs.Members.same_member}
-use Rattle.dali_script.{proofs.Transactions.stage_none}
-use Rattle.dali_search.{specs.declared.step.Step.TheVariants.Found}
-use Rattle.dali_controller.specs.Course.{visiting, sought, address_for, least_open, is_open, is_anothers, opening_anew, closing as closing_by, turn_of}
-use Rattle.dali_controller.{specs.Machine.{Machine, is_withheld, is_withheld_by}, specs.Next.{next_course, begins_at, at_rest, beginning, course_by, may_draw}}
-use Rattle.dali_controller.{specs.Next.{full, ungiven}, specs.Orders.{machine_ordered, AfterEnrolled, AfterFinding, AfterMaskOn, AfterMaskBy, AfterReserved}}
-use Rattle.dali_controller.{specs.Whole.IsWhole, specs.declared.purpose.Purpose.Purpose, specs.declared.purpose.Purpose.TheVariants.{Opening, Probing, Hunting}}
-use Rattle.dali_controller.specs.declared.purpose.Purpose.TheVariants.{Visiting, Resolving, Closing, Calling, Drawing, PassingOver, Asking as Counting}
-use Rattle.dali_controller.{specs.declared.way.Way.Way, specs.declared.way.Way.TheVariants.{Fresh, Surveying}, proofs.Given.{IsGivenBy, IsNoEnrolment}}
-use Rattle.dali_special.{specs.Command.frame_of, specs.declared.command.Command.Command, specs.declared.command.Command.TheVariants.Program}
-use Rattle.dali_events.specs.Wanted.{is_wanted, wants, is_bare}
+use Rattle.dali_progress.proofs.Below.{◌≡◌, ℕ, ◌+◌, ◌-◌, ◌*◌, ◌<◌, ◌≤◌, ◌⊎◌, inl, inr, Bool, true, false, List, [], ◌∷◌, ◌++◌, refl, sym, ap, subst, ◌∙◌, arith}
+use Rattle.dali_progress.proofs.Below.{Option, Some, None, ◌==◌, if◌then◌else◌, suc, ◌&&◌, nat_lt, is_some, MatchOption, count_by, LATER, value_of, MASK24}
+use Rattle.dali_progress.proofs.Below.{SearchAddress, Gear, Assignment, Has, IsMap, with_record, Kept, HasRandom, IsKept, stage_of, Input, Order, Put, Commit}
+use Rattle.dali_progress.proofs.Below.{Done, Halt, BlockFull, Record, Reserve, Enrol, Release, Queried, Stage, has_last, has_before, has_cases, without_has}
+use Rattle.dali_progress.proofs.Below.{has_map, same_member, stage_none, Found, visiting, sought, address_for, least_open, is_open, is_anothers, opening_anew}
+use Rattle.dali_progress.proofs.Below.{closing as closing_by, turn_of, Machine, is_withheld, is_withheld_by, next_course, begins_at, at_rest, beginning}
+use Rattle.dali_progress.proofs.Below.{course_by, may_draw, full, ungiven, machine_ordered, AfterEnrolled, AfterFinding, AfterMaskOn, AfterMaskBy}
+use Rattle.dali_progress.proofs.Below.{AfterReserved, IsWhole, Purpose, Opening, Probing, Hunting, Visiting, Resolving, Closing, Calling, Drawing, PassingOver}
+use Rattle.dali_progress.proofs.Below.{Asking as Counting, Way, Fresh, Surveying, IsGivenBy, IsNoEnrolment, frame_of, Command, Program, is_wanted, wants}
+use Rattle.dali_progress.proofs.Below.{is_bare, IsSettled, AreTabled}
 use Rattle.dali_script.specs.declared.stage.Stage.TheVariants as stage
 use Rattle.dali_controller.proofs.Given as given
 use Rattle.dali_events.proofs.Search.Wanted as wanted
-use Rattle.dali_progress.{specs.Rounds.IsSettled, specs.Ends.AreTabled, proofs.Both.{never_eight, entry_last, with_kept, no_enrolment_now, visits_first}}
-use Rattle.dali_progress.{proofs.Both.{frames_reserved, reserved_begins, enrolled_begins, drawn_number, close_ends, entry_twice}, proofs.Frames.value_sought}
-use Rattle.dali_progress.{proofs.Stands.{search_frames, VisitFrames, Visits, Leaves}, proofs.Survey.Stands.{Calm, Begun, survey_frames, called_after, Hunts}}
-use Rattle.dali_progress.{proofs.Survey.Stands.{SurveyAt, SurveyStands, Draws}, proofs.Survey.Begins.{EnrolsCounted, ReleasesCounted, EnrolsHunted}}
-use Rattle.dali_progress.proofs.Survey.Begins.{ReservesHunted, SurveyCommits, first_by, asked_none, asks_on, hunts_on, clear_reserved, Above, later_by}
-use Rattle.dali_progress.{proofs.Survey.Begins.{turns_by, all_taken, nobody_elses, GoesTo}, proofs.Survey.Drawn.{those_drawn, is_lost, bare_split}}
-use Rattle.dali_progress.{proofs.Survey.Drawn.drawn_tabled, proofs.Survey.Queried.{OneShort, IsTrue, unseen, IsAtHand}, proofs.Survey.Hunting.never_full}
-use Rattle.dali_progress.{proofs.Survey.Hunting.{hunting_turns, drawn_turns}, proofs.Survey.Turns.{IsUncontradicted, found_at, census_turns, calling_turns}}
-use Rattle.dali_progress.{proofs.Tables.tabled_over, proofs.Accounted.open_is, proofs.Surveying.draw_over}
+use Rattle.dali_progress.proofs.Both.{never_eight, entry_last, with_kept, no_enrolment_now, visits_first, frames_reserved, reserved_begins, enrolled_begins}
+use Rattle.dali_progress.proofs.{Both.{drawn_number, close_ends, entry_twice}, Frames.value_sought, Stands.{search_frames, VisitFrames, Visits, Leaves}}
+use Rattle.dali_progress.proofs.{Survey.Stands.{Calm, Begun, survey_frames, called_after, Hunts, SurveyAt, SurveyStands, Draws}, Survey.Begins.EnrolsCounted}
+use Rattle.dali_progress.proofs.Survey.Begins.{ReleasesCounted, EnrolsHunted, ReservesHunted, SurveyCommits, first_by, asked_none, asks_on, hunts_on}
+use Rattle.dali_progress.proofs.{Survey.Begins.{clear_reserved, Above, later_by, turns_by, all_taken, nobody_elses, GoesTo}, Survey.Drawn.those_drawn}
+use Rattle.dali_progress.proofs.{Survey.Drawn.{is_lost, bare_split, drawn_tabled}, Survey.Queried.{OneShort, IsTrue, unseen, IsAtHand}}
+use Rattle.dali_progress.proofs.{Survey.Hunting.{never_full, hunting_turns, drawn_turns}, Survey.Turns.{IsUncontradicted, found_at, census_turns}}
+use Rattle.dali_progress.proofs.{Survey.Turns.calling_turns, Tables.tabled_over, Accounted.open_is, Surveying.draw_over}
 
 -- A RECORD OF A SURVEY IS KEPT, and the next transaction begins.
 
