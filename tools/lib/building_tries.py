@@ -15,12 +15,13 @@ import tempfile
 import time
 import typing
 
-from lib import ROOT, asking, browser, buildings, commission_faults, marks, places, ssh_server, working
+from lib import ROOT, asking, browser, commission_faults, ssh_server
 from lib.drive_stubs import Checks
+from yolgibat import buildings, marks, places, working
 
 STUB = ROOT / "tools/lib/commission_stub.py"
 # How the script is called: without what a site adds to Python, which it does not need.
-COMMAND = (sys.executable, "-S", ROOT / "tools/building")
+COMMAND = (sys.executable, "-S", ROOT / "yolgibat/__main__.py", "dali_commission", "building")
 # A driver that answers each frame, of this name.
 DRIVER = "sh -c 'while read -r line; do echo silence; done' {}"
 NAMES = ["school.ground.1", "school.ground.2", "school.first.1", "gym"]
@@ -126,7 +127,7 @@ TAKEN, SIZE = "docs/pictures/building.png", (1000, 820)
 CALLS, ENDED, FRAMES = 4, (0, 13), 3000
 # The processes of a building, by what their command lines have.
 DRIVERS = "the drivers"
-KINDS = {"what joins each program and its driver": b"forked.serve", DRIVERS: b"adapters/simulated", "the command": b"tools/building"}
+KINDS = {"what joins each program and its driver": b"forked.serve", DRIVERS: b"adapters/simulated", "the command": b"yolgibat"}
 
 
 class Many(Room):

@@ -209,8 +209,8 @@ def headings(file: pathlib.Path) -> set[str]:
 
 
 def paths(root: pathlib.Path) -> Iterator[str]:
-    """Paths of the repository that documents name, as `docs/FORMAT.md` or `tools/launch`, are there."""
-    tops = (*FOLDERS, "adapters", "docs", "tools", "examples", "include")
+    """Paths of the repository that documents name, as `docs/FORMAT.md` or `yolgibat/launch`, are there."""
+    tops = (*FOLDERS, "adapters", "docs", "tools", "yolgibat", "examples", "include")
     for file in everywhere(root, ".md"):
         if file.name == "CHANGELOG.md":
             continue
@@ -246,7 +246,7 @@ def kit(root: pathlib.Path) -> Iterator[str]:
     """The kit's name stands in the file KIT alone."""
     name = (root / "KIT").read_text().split()[0]
     found = [file for suffix in (".md", ".rt", ".py") for file in everywhere(root, suffix)]
-    found += [file for pattern in ("tools/**/*", ".ci/*", "*") for file in files(root, pattern)]
+    found += [file for pattern in ("tools/**/*", "yolgibat/**/*", ".ci/*", "*") for file in files(root, pattern)]
     for file in found:
         if file.is_file() and file != root / "KIT" and name in file.read_text(errors="replace"):
             yield f"{named(root, file)}: the kit's name stands here, and in KIT"
@@ -306,7 +306,7 @@ def version(root: pathlib.Path) -> Iterator[str]:
         "crates/dali_words/src/program.rt": r'VERSION: &str = "(.*)"',
         "include/dali_c.h": r'#define DALI_VERSION "(.*)"',
         "CHANGELOG.md": r"(?m)^## (\d.*)",
-        **{f"tools/lib/help/{it}-version.txt": rf"{it} (.*)" for it in ("dali_sim", "dali_commission")},
+        **{f"yolgibat/help/{it}-version.txt": rf"{it} (.*)" for it in ("dali_sim", "dali_commission")},
     }
     structs = {"crates/dali_c/src/state.rt": r"VERSION: u8 = (\d+);", "include/dali_c.h": r"#define DALI_C_VERSION (\d+)\n"}
     for places in (program, structs):
@@ -319,14 +319,14 @@ def version(root: pathlib.Path) -> Iterator[str]:
 
 def helps(root: pathlib.Path) -> Iterator[str]:
     """The help of ./dali_commission is at most 100 columns wide, lists `page` first, and names each command and each of its options."""
-    own = root / "tools/lib/help/dali_commission-launcher.txt"
+    own = root / "yolgibat/help/dali_commission-launcher.txt"
     text = own.read_text() if own.exists() else ""
     for at, line in enumerate(text.splitlines(), 1):
         if len(line) > HELP_WIDTH:
             yield f"{named(root, own)}:{at}: {len(line)} columns, and {HELP_WIDTH} at most"
     if text and not re.search(r"^Commands:\n  page ", text, re.M):
         yield f"{named(root, own)}: page is not its first command"
-    for file in files(root, "tools/lib/help/dali_commission-*.txt") if text else ():
+    for file in files(root, "yolgibat/help/dali_commission-*.txt") if text else ():
         words = re.findall(r"^ +(?:-\w, )?(--[\w-]+)", file.read_text(), re.M)
         for word in words if file != own else ():
             if not re.search(rf"{word}(?![\w-])", text):
@@ -345,7 +345,7 @@ def readmes(root: pathlib.Path) -> Iterator[str]:
 
 def annotations(root: pathlib.Path) -> Iterator[str]:
     """The public functions of modules in Python have types at their arguments and their results."""
-    for file in [*files(root, "tools/lib/*.py"), *files(root, "adapters/*.py")]:
+    for file in [*files(root, "tools/lib/*.py"), *files(root, "yolgibat/*.py"), *files(root, "adapters/*.py")]:
         for name, it in public(ast.parse(file.read_text()).body):
             listed = [*it.args.posonlyargs, *it.args.args, it.args.vararg, *it.args.kwonlyargs, it.args.kwarg]
             lacks = [that.arg for that in listed if that and that.annotation is None and that.arg not in ("self", "cls")]
