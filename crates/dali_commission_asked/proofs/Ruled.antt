@@ -78,7 +78,7 @@ pub check : {F : Type 0} (saw : F → Look → Type 0) (stores : F) (told : Said
     (line : ℕ) (x y : Talk) (before report : Report) (first : Option (List ℕ))
     → IsCheckOf saw stores told others heard line x y before report (Ok (tt {0})) first → AsksByRules x y
 check saw stores told others heard line x y before report None is = checked _ told others heard line x y report (Ok (tt {0})) refl is
-check saw stores told others heard line x y before report (Some name) (inl (err, same)) = absurd (false≢true err)
+check saw stores told others heard line x y before report (Some name) (inl (err, same, kept)) = absurd (false≢true err)
 check saw stores told others heard line x y before report (Some name) (inr (done, is, so)) =
     checked _ told others heard line x y report done so is
 

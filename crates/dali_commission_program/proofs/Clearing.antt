@@ -41,7 +41,7 @@ cleared_more came x y (replies, found, at, are, inr (none, left), is, reports) =
 pub clear_more : {F : Type 0} (made : F → F → Call → Type 0) (saw : F → Look → Type 0) (told : Said → Type 0)
     (records : List (String Global)) (was now : F) (x y : Talk) (frames : ℕ) (before report : Report)
     → HasCleared made saw told records was now x y frames before report (Ok (tt {0})) → IsMore x y
-clear_more made saw told records was now x y frames before report (inl (err, same)) = absurd (false≢true err)
+clear_more made saw told records was now x y frames before report (inl (err, same, kept)) = absurd (false≢true err)
 clear_more made saw told records was now x y frames before report (inr (mid, aside, new, inl (reason, so, reports, cut))) = absurd (ok_err _ so)
 clear_more made saw told records was now x y frames before report (inr (mid, aside, new, inr (came, clears, reports, said))) =
     cleared_more came x y clears

@@ -53,6 +53,6 @@ pub check_more : {F : Type 0} (saw : F → Look → Type 0) (stores : F) (told :
     (line : ℕ) (x y : Talk) (before report : Report) (first : Option (List ℕ))
     → IsCheckOf saw stores told others heard line x y before report (Ok (tt {0})) first → IsMore x y
 check_more saw stores told others heard line x y before report None is = checked_more _ told others heard line x y report (Ok (tt {0})) refl is
-check_more saw stores told others heard line x y before report (Some name) (inl (err, same)) = absurd (false≢true err)
+check_more saw stores told others heard line x y before report (Some name) (inl (err, same, kept)) = absurd (false≢true err)
 check_more saw stores told others heard line x y before report (Some name) (inr (done, is, so)) =
     checked_more _ told others heard line x y report done so is
