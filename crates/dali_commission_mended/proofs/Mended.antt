@@ -117,9 +117,11 @@ all_mended is_up is_sound holds kept_of block mended remaining contents told oth
   named,
   missing,
   is,
-  z,
-  subst (λ t. MendsOver is_up is_sound holds kept_of block remaining contents told others wanted t was keep (with_enrolled x 0) z r) none mends,
-  counts,
+  (
+    z,
+    subst (λ t. MendsOver is_up is_sound holds kept_of block remaining contents told others wanted t was keep (with_enrolled x 0) z r) none mends,
+    counts,
+  ),
 )
 
 -- A MEND beside other tables, as it is lent.
@@ -135,6 +137,26 @@ unfolding IsMendBeside
 mends_beside is_up is_sound holds kept_of block_of saw opens remaining contents told others wanted stores name more none tables x y done result empty
     reads reserved lent is =
     rw is (inr (tables, subst (λ ts. AreRead saw stores more ts tables) empty reads, reserved, lent))
+
+-- A RUN that mends nothing.
+pub ran_only : {S R W : Type 0} (is_up is_sound : S → Type 0) (holds : S → List Record → Type 0) (kept_of : S → Kept) (block first : Block)
+    (remaining : R → Option (List ℕ)) (contents : W → Option (List ℕ)) (told : Said → Type 0) (others : List Block) (setup : Setup)
+    (was opened mid : S) (x at : Session R W) (before : Kept) (ended : Result (Unit {0}) Failure) → first ≡ block
+    → IsRead is_up is_sound holds block was opened before
+    → HasRun is_up is_sound holds first remaining contents told others setup before opened mid x at ended
+    → (setup.mends ≡ true → ended ≡ Err Shared → ⊥)
+    → HasRunOver is_up is_sound holds kept_of block remaining contents told others setup was mid x at ended
+ran_only is_up is_sound holds kept_of block first remaining contents told others setup was opened mid x at before ended same reads ran not =
+    inr (
+      before,
+      opened,
+      ended,
+      mid,
+      at,
+      reads,
+      subst (λ b. HasRun is_up is_sound holds b remaining contents told others setup before opened mid x at ended) same ran,
+      inl (not, refl, refl, refl),
+    )
 
 -- A RUN that ended with gear that share short addresses, and mended these.
 pub ran_and_mended : {S R W : Type 0} (is_up is_sound : S → Type 0) (holds : S → List Record → Type 0) (kept_of : S → Kept) (block first last : Block)

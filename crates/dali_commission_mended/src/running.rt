@@ -105,11 +105,9 @@ fn ended_so<K: Keep, R: Read, W: Write>(
         store.old store.new (talk_of R.remaining W.contents driver.old) (talk_of R.remaining W.contents driver.new)
         (lines_of driver.new) came.report came.ended) }
 {
-    let after = match store.read() {
+    let after = match kept(store) {
         Ok(after) => after,
-        Err(error) => {
-            return Err(failure_of(CommissionFault::Store(error), driver.lines()));
-        }
+        Err(failure) => return Err(failure),
     };
     let asked = ask_at_last(driver, pass, &after);
     let lines = driver.lines();
