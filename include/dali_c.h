@@ -124,7 +124,8 @@ enum dali_end {
     DALI_ALL_FOUND = 1,
     /* The block has no free short address. */
     DALI_BLOCK_FULL = 2,
-    /* Eight transactions in a row were lost; or sixteen searches of a start, or eighty of a survey, led to no gear. */
+    /* Eight transactions in a row were lost; or sixteen searches of a start, or eighty of a survey, led to no gear; or
+     * dali_machine_stop ended the run. */
     DALI_GAVE_UP = 3
 };
 
@@ -155,6 +156,23 @@ enum dali_record_kind {
     DALI_ENROL = 2,
     /* A reservation is given back. */
     DALI_RELEASE = 3
+};
+
+/* What a machine does, by dali_machine_progress. */
+enum dali_phase {
+    /* It has not started. */
+    DALI_NOT_STARTED = 0,
+    /* It asks gear under a short address for their random address. */
+    DALI_ASKING = 1,
+    /* It lets gear without short address draw random addresses, or searches them. */
+    DALI_SEARCHING = 2,
+    /* It visits a gear that was found, or for which a short address is reserved: asks it for its short address, and
+     * programs it if it has none. */
+    DALI_PROGRAMMING = 3,
+    /* It ends the initialisation of all gear. */
+    DALI_ENDING = 4,
+    /* It is done, or has halted. */
+    DALI_OVER = 5
 };
 
 /* What is to be done after a step, by dali_passes_step. */
@@ -308,6 +326,15 @@ struct dali_table {
     struct dali_pair gear[DALI_ADDRESSES];
 };
 
+/* How far a machine is. Its phase is of enum dali_phase. */
+struct dali_progress {
+    uint8_t phase;
+    /* The one that is asked, or that is reserved for the gear that is visited; DALI_ADDRESSES if there is none. */
+    uint8_t short_address;
+    /* How many gear are enrolled, with those of earlier runs. */
+    uint8_t gear;
+};
+
 /* The runs of a controller, one machine after the other. Make one with dali_passes_new: how many runs up to the last have
  * found all gear and committed nothing, and whether this one has ordered a commit and has heard a byte. */
 struct dali_passes {
@@ -452,6 +479,16 @@ uint8_t dali_machine_records(const struct dali_machine *machine, struct dali_rec
 
 /* The enrolment table of a machine. DALI_OTHER_VERSION, DALI_NO_MACHINE: `machine` is no machine's. */
 uint8_t dali_machine_table(const struct dali_machine *machine, struct dali_table *table);
+
+/* How far a machine is. DALI_OTHER_VERSION, DALI_NO_MACHINE: `machine` is no machine's. */
+uint8_t dali_machine_progress(const struct dali_machine *machine, struct dali_progress *progress);
+
+/* TO END A RUN BEFORE ITS TIME. The same as dali_machine_step, but a transaction that would begin is left out: TERMINATE
+ * is ordered in its place, and then DALI_DONE with DALI_GAVE_UP. A transaction that runs goes on, a record that was
+ * ordered is waited for, and the gear of a reservation is visited. So call it in place of dali_machine_step until the
+ * order is DALI_DONE or DALI_HALT; a run that ends by itself meanwhile has its own reason. A new machine with the records
+ * goes on. */
+uint8_t dali_machine_stop(struct dali_machine *machine, uint8_t input, uint8_t byte, struct dali_order *order);
 
 /* WHEN A CONTROLLER IS READY. The runs of a controller, before the first one. */
 uint8_t dali_passes_new(struct dali_passes *passes);

@@ -61,6 +61,7 @@ static void check_layouts(void)
     CHECK_LAYOUT(dali_order, 12);
     CHECK_LAYOUT(dali_machine, 640);
     CHECK_LAYOUT(dali_table, 257);
+    CHECK_LAYOUT(dali_progress, 3);
     CHECK_LAYOUT(dali_passes, 3);
     CHECK_LAYOUT(dali_levels, 40);
     CHECK_LAYOUT(dali_receiver, 10);
@@ -111,7 +112,22 @@ static void check_new(const struct dali_records *records, uint8_t status)
     check_written(&machine, sizeof machine, status, "what dali_machine_new writes");
 }
 
-/* A step, and if the struct holds a machine the same by dali_machine_go. */
+/* A stop has the status of a step, and leaves the records of one. */
+static void check_stop(const struct dali_machine *before, uint8_t input, uint8_t byte, uint8_t status)
+{
+    struct dali_machine stepped = *before;
+    struct dali_machine machine = *before;
+    struct dali_order order;
+
+    dali_machine_step(&stepped, input, byte, &order);
+    memset(&order, UNTOUCHED, sizeof order);
+    check(dali_machine_stop(&machine, input, byte, &order) == status, "the status of a stop");
+    check_written(&order, sizeof order, status, "the order of a stop");
+    check(memcmp(&machine.records, &stepped.records, sizeof machine.records) == 0, "the records after a stop");
+    check(status == DALI_OK || memcmp(&machine, before, sizeof machine) == 0, "a stop refuses and changes");
+}
+
+/* A step and a stop, and if the struct holds a machine the same step by dali_machine_go. */
 static void check_step(struct dali_machine *machine, uint8_t input, uint8_t byte, uint8_t status)
 {
     struct dali_machine before = *machine;
@@ -125,6 +141,7 @@ static void check_step(struct dali_machine *machine, uint8_t input, uint8_t byte
     check_written(&order, sizeof order, status, "the order of a step");
     if (status != DALI_OK)
         check(memcmp(machine, &before, sizeof before) == 0, "a step refuses and changes");
+    check_stop(&before, input, byte, status);
     if (status == DALI_NO_MACHINE || status == DALI_OTHER_VERSION)
         return;
     check(dali_machine_go(&other, input, byte, &other_order) == status, "the status of dali_machine_go");
@@ -132,17 +149,34 @@ static void check_step(struct dali_machine *machine, uint8_t input, uint8_t byte
     check(memcmp(&other_order, &order, sizeof order) == 0, "the order of dali_machine_go");
 }
 
+/* Whether the header has such a code. The switch has no default, as those below. */
+static int is_phase(enum dali_phase phase)
+{
+    switch (phase) {
+    case DALI_NOT_STARTED:
+    case DALI_ASKING:
+    case DALI_SEARCHING:
+    case DALI_PROGRAMMING:
+    case DALI_ENDING:
+    case DALI_OVER:
+        return 1;
+    }
+    return 0;
+}
+
 static void check_reads(const struct dali_machine *machine, uint8_t status)
 {
     struct dali_order order;
     struct dali_records records;
     struct dali_table table;
+    struct dali_progress progress;
     uint8_t due = UNTOUCHED;
     uint8_t answered;
 
     memset(&order, UNTOUCHED, sizeof order);
     memset(&records, UNTOUCHED, sizeof records);
     memset(&table, UNTOUCHED, sizeof table);
+    memset(&progress, UNTOUCHED, sizeof progress);
     /* What is due is read of the last order alone, so other bytes that hold no machine are passed over. */
     answered = dali_machine_due(machine, &due);
     check(answered == DALI_OK || (status != DALI_OK && answered == DALI_NO_MACHINE), "the status of dali_machine_due");
@@ -150,6 +184,11 @@ static void check_reads(const struct dali_machine *machine, uint8_t status)
     check(dali_machine_last(machine, &order) == status, "the status of dali_machine_last");
     check(dali_machine_records(machine, &records) == status, "the status of dali_machine_records");
     check(dali_machine_table(machine, &table) == status, "the status of dali_machine_table");
+    check(dali_machine_progress(machine, &progress) == status, "the status of dali_machine_progress");
+    check_written(&progress, sizeof progress, status, "what dali_machine_progress writes");
+    if (status == DALI_OK)
+        check(is_phase(progress.phase) && progress.short_address <= DALI_ADDRESSES && progress.gear == records.enrolled.count,
+              "how far a machine is");
     check_written(&due, sizeof due, answered, "what dali_machine_due writes");
     check_written(&order, sizeof order, status, "what dali_machine_last writes");
     check_written(&records, sizeof records, status, "what dali_machine_records writes");
@@ -486,6 +525,51 @@ static void reach_passes(void)
     check_pass(&passes, DALI_HEARD_BYTE, DALI_HALT + 1, 0, 0xFF);
 }
 
+/* A run that is to end after so many steps, on a bus without troubles: how many frames it sends then. */
+static int stop_after(int steps, uint8_t start, struct bus *bus, struct dali_records *records)
+{
+    struct told told = {start, 0};
+    struct dali_machine machine;
+    struct dali_order order = {DALI_NOTHING_ORDERED, 0, 0, 0, 0, 0, {0, {0, {0, 0, 0}}}, 0};
+    uint8_t last = 0;
+    int frames = 0;
+
+    dali_machine_new(&machine, records);
+    for (int step = 0; order.kind != DALI_DONE && step < steps + 100; step++) {
+        uint8_t status = step < steps ? dali_machine_step(&machine, told.input, told.byte, &order)
+                                      : dali_machine_stop(&machine, told.input, told.byte, &order);
+
+        if (status != DALI_OK)
+            break;
+        frames += order.kind == DALI_PUT && step >= steps;
+        if (order.kind == DALI_PUT)
+            last = order.address_byte;
+        told = order.kind == DALI_PUT ? bus_send(bus, order.address_byte, order.opcode_byte) : (struct told){DALI_COMMITTED, 0};
+    }
+    dali_machine_records(&machine, records);
+    check(order.kind == DALI_DONE && last == 0xA1, "a run that is to end does not end by TERMINATE");
+    return frames;
+}
+
+/* Runs that are to end at each step: no reservation is left without its gear, and a later run addresses all. */
+static void reach_stops(void)
+{
+    for (int steps = 0; steps < 500; steps++) {
+        struct dali_records records;
+        struct bus bus;
+
+        bus_new(&bus, 7, 3);
+        dali_records_new(&records, 0, 63);
+        check(stop_after(steps, steps % 2 ? DALI_START : DALI_SURVEY, &bus, &records) <= 14, "a run ends late");
+        check(records.reserved.count == records.enrolled.count, "a reservation is left without its gear");
+        for (int at = 0; at < records.enrolled.count; at++)
+            check(memcmp(&records.reserved.pairs[at], &records.enrolled.pairs[at], sizeof *records.enrolled.pairs) == 0,
+                  "another gear is enrolled");
+        stop_after(100000, DALI_SURVEY, &bus, &records);
+        check(records.enrolled.count == 3, "a run after one that was stopped");
+    }
+}
+
 /* Each status of the calls at the pins, at what they make and at bytes that are none. */
 static void reach_pins(unsigned long rounds, uint64_t seed)
 {
@@ -730,6 +814,7 @@ int main(int count, char **words)
     check_layouts();
     reach_statuses();
     reach_passes();
+    reach_stops();
     reach_pins(rounds, chance);
     reach_port();
     collect(machines, chance);

@@ -22,6 +22,7 @@ structs! {
     }
     dali_machine 640 { state: [u8; 124], records: dali_records, }
     dali_table 257 { count: u8, gear: [dali_pair; 64], }
+    dali_progress 3 { phase: u8, short_address: u8, gear: u8, }
     dali_passes 3 { quiet: u8, has_committed: u8, has_heard: u8, }
     dali_levels 40 { is_low: [u8; 40], }
     dali_receiver 10 { bytes: [u8; 10], }
@@ -52,6 +53,8 @@ extern "C" {
     pub fn dali_machine_last(machine: *const dali_machine, order: *mut dali_order) -> u8;
     pub fn dali_machine_records(machine: *const dali_machine, records: *mut dali_records) -> u8;
     pub fn dali_machine_table(machine: *const dali_machine, table: *mut dali_table) -> u8;
+    pub fn dali_machine_progress(machine: *const dali_machine, progress: *mut dali_progress) -> u8;
+    pub fn dali_machine_stop(machine: *mut dali_machine, input: u8, byte: u8, order: *mut dali_order) -> u8;
     pub fn dali_passes_new(passes: *mut dali_passes) -> u8;
     pub fn dali_passes_step(passes: *mut dali_passes, input: u8, order: *const dali_order, next: *mut u8) -> u8;
     pub fn dali_levels_new(levels: *mut dali_levels, address_byte: u8, opcode_byte: u8) -> u8;

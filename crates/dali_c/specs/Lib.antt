@@ -13,4 +13,6 @@ pub mod Receivers
 pub mod Passes
 pub mod Port
 pub mod Calls
+pub mod Stops
 pub mod Hosts
+pub mod Progress
