@@ -57,7 +57,11 @@ enum dali_status {
     /* What is released is not reserved so. */
     DALI_NOT_RESERVED = 8,
     /* The struct is no machine of this version: another build of the library left it there, or none. */
-    DALI_OTHER_VERSION = 9
+    DALI_OTHER_VERSION = 9,
+    /* The time is before that of the last call. */
+    DALI_BACKWARDS = 10,
+    /* The last frame has not ended. */
+    DALI_BUSY = 11
 };
 
 /* What a machine is told. */
@@ -185,7 +189,7 @@ enum dali_next {
     DALI_NEXT_ENDED = 4
 };
 
-/* What a receiver of edges tells. */
+/* What a receiver of edges tells, and a port. */
 enum dali_frame_kind {
     /* No frame has ended. */
     DALI_NO_FRAME = 0,
@@ -196,7 +200,9 @@ enum dali_frame_kind {
     /* 24 bits, a forward frame for other devices: its three bytes. */
     DALI_DEVICE_FRAME = 3,
     /* Anything else: wrong bit times, a bit without a change in its middle, a wrong number of bits. */
-    DALI_DAMAGED_FRAME = 4
+    DALI_DAMAGED_FRAME = 4,
+    /* Of a port alone: the bus has been low for 500 ms, so it has no power. It is told once. */
+    DALI_NO_POWER = 5
 };
 
 /* A random address of 24 bits, as its three bytes. */
@@ -378,6 +384,48 @@ struct dali_heard {
     uint8_t byte;
 };
 
+/* A port between the pins and a machine. Make one with dali_port_new; its fields are the library's alone. */
+struct dali_port {
+    uint64_t called;
+    uint64_t edge;
+    uint64_t first;
+    uint64_t randomise;
+    uint64_t draws;
+    uint64_t since;
+    uint64_t agreed;
+    uint64_t driven;
+    uint32_t drawn;
+    uint8_t priority;
+    uint8_t address_byte;
+    uint8_t opcode_byte;
+    uint8_t asks;
+    uint8_t half;
+    uint8_t at_half;
+    uint8_t phase;
+    uint8_t is_low;
+    uint8_t is_powerless;
+    uint8_t is_over;
+    uint8_t has_first;
+    uint8_t has_randomise;
+    uint8_t has_draws;
+    struct dali_window window;
+    struct dali_receiver receiver;
+};
+
+/* What each call of a port tells. */
+struct dali_event {
+    /* When to call dali_port_timer, if no other call comes before: at most 18 minutes later. */
+    uint32_t at;
+    /* 1 if the bus is to be driven low from now on, and whether it is to be from `at` on, unless a frame begins then. */
+    uint8_t is_low;
+    uint8_t next;
+    /* What dali_machine_step is told of the frame, DALI_HEARD_SILENCE to DALI_LAPSED with its byte; 0 if it has not ended. */
+    uint8_t input;
+    uint8_t byte;
+    /* What was read of others, while no frame of the port is on the bus. */
+    struct dali_told read;
+};
+
 /* DALI_C_VERSION of the library. */
 uint8_t dali_c_version(void);
 
@@ -488,6 +536,33 @@ uint8_t dali_receiver_edge(struct dali_receiver *receiver, uint8_t is_low, uint3
  *
  * DALI_BAD_ARGUMENT: `receiver` is none. */
 uint8_t dali_receiver_time(struct dali_receiver *receiver, uint32_t micros, struct dali_told *told);
+
+/* A PORT does all at the pins: it waits for the bus, sends, compares, breaks off, listens, and reads the frames of others.
+ * `now` is the time of a clock that counts microseconds in 32 bits, of an edge the time that was captured. Read the time,
+ * hand over each edge that was captured up to it, and then that time. After each call drive what `event` says.
+ *
+ * Each call answers DALI_BAD_ARGUMENT if `port` is none, or a level is neither 0 nor 1; DALI_BACKWARDS if `now` is before
+ * the time of the last call. Call once in 35 minutes at least. */
+
+/* A port at power-up, or if nothing is known of the bus but its level. */
+uint8_t dali_port_new(struct dali_port *port, uint8_t is_low, uint32_t now, struct dali_event *event);
+
+/* A frame to send, as a machine ordered it. It begins when the bus is at rest, `drawn` microseconds later than the least
+ * time of its priority: draw it anew for each frame, from 0 to 1,200.
+ *
+ * DALI_BUSY: the last frame has not ended. DALI_BAD_ARGUMENT: `order` is no DALI_PUT; or its second half has not
+ * DALI_LATER_PRIORITY; or `drawn` is too much. */
+uint8_t dali_port_send(struct dali_port *port, const struct dali_order *order, uint32_t drawn, uint32_t now,
+                       struct dali_event *event);
+
+/* An edge. If the bus has that level already, an edge was lost. */
+uint8_t dali_port_edge(struct dali_port *port, uint8_t is_low, uint32_t now, struct dali_event *event);
+
+/* An edge may have been lost, as when the capture unit overran, or an edge is refused by DALI_BACKWARDS. */
+uint8_t dali_port_lost(struct dali_port *port, uint8_t is_low, uint32_t now, struct dali_event *event);
+
+/* The time `at`, or any other. */
+uint8_t dali_port_timer(struct dali_port *port, uint32_t now, struct dali_event *event);
 
 #ifdef __cplusplus
 }

@@ -1,7 +1,6 @@
 #include "levels.h"
 #include "chance.h"
 #include "dali_c.h"
-#include "pins.h"
 
 /* Times here are nanoseconds after the last edge of a forward frame; what is handed over is whole microseconds. */
 #define MICRO UINT32_C(1000)
@@ -97,22 +96,25 @@ static struct dali_heard heard_of(struct levels *levels, uint32_t first, uint32_
     /* The timer begins anew meanwhile. */
     uint32_t sent = UINT32_C(0xFFFFFFFF) - 9000, edge;
     struct dali_heard heard = {0, 0, 0};
-    struct pins pins;
+    struct dali_window window;
+    uint32_t last = sent;
 
     join(levels);
     /* Of a low from the beginning on only the end is handed over: an echo. */
     edge = levels->count > 0 && levels->lows[0].from == 0;
-    pins_sent(&pins, sent);
+    dali_window_new(&window);
     for (uint32_t now = first; heard.is_over == 0; now += each) {
-        for (; edge < 2 * levels->count && edge_at(levels, edge) <= now; edge++)
-            pins_edge(&pins, sent + edge_at(levels, edge), edge % 2 == 0);
-        pins_time(&pins, sent + now, &heard);
+        for (; edge < 2 * levels->count && edge_at(levels, edge) <= now; edge++) {
+            dali_window_edge(&window, edge % 2 == 0, sent + edge_at(levels, edge) - last);
+            last = sent + edge_at(levels, edge);
+        }
+        dali_window_time(&window, sent + now - last, &heard);
     }
     seen->silences += heard.input == DALI_HEARD_SILENCE;
     seen->bytes += heard.input == DALI_HEARD_BYTE;
     seen->damaged += heard.input == DALI_HEARD_DAMAGED;
     mix(seen, &heard, sizeof heard);
-    mix(seen, &pins.window, sizeof pins.window);
+    mix(seen, &window, sizeof window);
     return heard;
 }
 

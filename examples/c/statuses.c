@@ -3,7 +3,7 @@
  *
  *     statuses [ROUNDS [SEED]]
  *
- * Each round tries a machine, records, a window and a receiver, some as they are, some with one byte
+ * Each round tries a machine, records, a window, a receiver and a port, some as they are, some with one byte
  * changed, some with all bytes at random; and it sends an answer and a frame by their levels. It says which of the first checks were wrong, and how many were right and
  * how many wrong; the status is 1 if one was wrong. */
 #include "chance.h"
@@ -68,6 +68,7 @@ static void check_layouts(void)
     CHECK_LAYOUT(dali_told, 8);
     CHECK_LAYOUT(dali_window, 16);
     CHECK_LAYOUT(dali_heard, 3);
+    check(sizeof(struct dali_port) == 112 && sizeof(struct dali_event) == 16, "the size of a port and its event");
 }
 
 static struct dali_record record_of(uint8_t kind, uint8_t short_address, uint32_t random_address)
@@ -589,6 +590,104 @@ static void reach_pins(unsigned long rounds, uint64_t seed)
            (unsigned long)seen.bytes, (unsigned long)seen.damaged, (unsigned long)seen.frames);
 }
 
+/* A call of a port has this status, and it writes nothing if it is refused. */
+static void check_port(uint8_t status, uint8_t wanted, const struct dali_port *port, const struct dali_port *before,
+                       const struct dali_event *event, const char *what)
+{
+    check(status == wanted, what);
+    check_written(event, sizeof *event, status, what);
+    check(status == DALI_OK || memcmp(port, before, sizeof *port) == 0, what);
+}
+
+/* Each call of a port in turn: all bytes of `given` are some, and the call that is chosen gets this level, time and frame. */
+static uint8_t port_call(struct dali_port *port, uint32_t call, uint8_t is_low, uint32_t now, const struct dali_order *order,
+                         struct dali_event *event)
+{
+    memset(event, UNTOUCHED, sizeof *event);
+    switch (call % 4) {
+    case 0:
+        return dali_port_edge(port, is_low, now, event);
+    case 1:
+        return dali_port_lost(port, is_low, now, event);
+    case 2:
+        return dali_port_timer(port, now, event);
+    default:
+        return dali_port_send(port, order, now % 1201, now, event);
+    }
+}
+
+/* Each status of a port, and what it tells of a frame that no gear answers. */
+static void reach_port(void)
+{
+    struct dali_order order = {DALI_PUT, DALI_FIRST_PRIORITY, 0xA9, 0, 1, DALI_WHOLE, {0, {0, {0, 0, 0}}}, 0};
+    struct dali_port port, before;
+    struct dali_event event;
+    uint32_t now = UINT32_C(0xFFFFFFFF) - 9000;
+    uint8_t was_low = 0;
+
+    memset(&port, UNTOUCHED, sizeof port);
+    before = port;
+    for (uint32_t call = 0; call < 4; call++)
+        check_port(port_call(&port, call, 0, now, &order, &event), DALI_BAD_ARGUMENT, &port, &before, &event, "a port that is none");
+    check(dali_port_new(&port, 2, now, &event) == DALI_BAD_ARGUMENT, "a level that is none");
+    check(dali_port_new(&port, 0, now, &event) == DALI_OK, "the status of dali_port_new");
+    before = port;
+    for (uint32_t call = 0; call < 4; call++) {
+        check_port(port_call(&port, call, 0, now - 1, &order, &event), DALI_BACKWARDS, &port, &before, &event, "a time before");
+        if (call < 2)
+            check_port(port_call(&port, call, 2, now, &order, &event), DALI_BAD_ARGUMENT, &port, &before, &event, "a level");
+    }
+    check(dali_port_send(&port, &order, 1401, now, &event) == DALI_BAD_ARGUMENT, "what is drawn is too much");
+    order.half = DALI_SECOND_HALF;
+    check(dali_port_send(&port, &order, 0, now, &event) == DALI_BAD_ARGUMENT, "a second half of priority 3");
+    order.half = DALI_WHOLE;
+    order.kind = DALI_COMMIT;
+    check(dali_port_send(&port, &order, 0, now, &event) == DALI_BAD_ARGUMENT, "an order that is no frame");
+    order.kind = DALI_PUT;
+    check(dali_port_send(&port, &order, 7, now, &event) == DALI_OK, "the status of dali_port_send");
+    check(dali_port_send(&port, &order, 7, now, &event) == DALI_BUSY, "a second frame");
+    /* The bus follows at once. */
+    for (int calls = 0; event.input == 0 && calls < 100; calls++) {
+        now = event.at;
+        check(dali_port_timer(&port, now, &event) == DALI_OK, "the status of dali_port_timer");
+        if (event.input == 0 && event.is_low != was_low)
+            check(dali_port_edge(&port, was_low = event.is_low, now, &event) == DALI_OK, "the status of dali_port_edge");
+    }
+    check(event.input == DALI_HEARD_SILENCE && event.is_low == 0, "what is told of a frame that no gear answers");
+    check(dali_port_lost(&port, 1, now, &event) == DALI_OK, "the status of dali_port_lost");
+    check(dali_port_timer(&port, now + 500000, &event) == DALI_OK && event.read.kind == DALI_NO_POWER, "a bus without power");
+}
+
+/* Any bytes as a port: what they tell has codes of the header. */
+static void try_port(uint64_t *chance)
+{
+    struct dali_order order = {DALI_PUT, (uint8_t)chance_below(chance, 7), 0xA7, 0, 0, (uint8_t)chance_below(chance, 4), {0, {0, {0, 0, 0}}}, 0};
+    struct dali_port port, before;
+    struct dali_event event;
+    uint8_t *bytes = (uint8_t *)&port, status;
+
+    for (size_t at = 0; at < sizeof port; at++)
+        bytes[at] = (uint8_t)chance_next(chance);
+    port.called >>= chance_below(chance, 40);
+    port.edge = port.called - chance_below(chance, 600000);
+    port.since = port.called - chance_below(chance, 2000);
+    port.priority %= 7;
+    port.half %= 4;
+    port.phase %= 6;
+    port.receiver.reading %= 6;
+    port.receiver.is_low %= 2;
+    port.window.receiver.reading %= 5;
+    port.window.receiver.is_low %= 2;
+    port.window.heard = (uint8_t)(1 + port.window.heard % 8);
+    before = port;
+    status = port_call(&port, chance_below(chance, 4), (uint8_t)chance_below(chance, 2), (uint32_t)port.called + chance_below(chance, 100000), &order,
+                       &event);
+    check(status == DALI_OK || status == DALI_BUSY || status == DALI_BAD_ARGUMENT, "the status of any port");
+    check_port(status, status, &port, &before, &event, "any port");
+    check(status != DALI_OK || (event.input <= DALI_LAPSED && event.read.kind <= DALI_NO_POWER && event.is_low <= 1 && event.next <= 1),
+          "the codes of an event");
+}
+
 /* A list has so many pairs, and this one is the last. */
 static void check_last(const struct dali_pairs *list, int count, const struct dali_pair *pair)
 {
@@ -717,6 +816,7 @@ int main(int count, char **words)
     reach_passes();
     reach_stops();
     reach_pins(rounds, chance);
+    reach_port();
     collect(machines, chance);
     for (unsigned long round = 0; round < rounds; round++) {
         struct dali_machine machine = machines[chance_below(&chance, MACHINES)];
@@ -730,6 +830,7 @@ int main(int count, char **words)
         change(&records, sizeof records, &chance);
         try_machine(&machine, input, (uint8_t)chance_next(&chance));
         try_records(&records, &addition);
+        try_port(&chance);
     }
     printf("%lu right, %lu wrong\n", right, wrong);
     return wrong > 0;

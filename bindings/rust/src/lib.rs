@@ -40,7 +40,7 @@ codes! {
     /// Why a call did nothing (`enum dali_status`).
     Status {
         NotDue = 1, NoMachine = 2, BadArgument = 3, NoRecords = 4, DoesNotFit = 5, AddressTaken = 6, RandomTaken = 7, NotReserved = 8,
-        OtherVersion = 9,
+        OtherVersion = 9, Backwards = 10, Busy = 11,
     }
 }
 codes! {
@@ -68,8 +68,8 @@ codes! {
     Next { Order = 0, Run = 1, Ready = 2, Ask = 3, Ended = 4, }
 }
 codes! {
-    /// What a receiver of edges tells (`enum dali_frame_kind`).
-    FrameKind { NoFrame = 0, ForwardFrame = 1, BackwardFrame = 2, DeviceFrame = 3, DamagedFrame = 4, }
+    /// What a receiver of edges tells, and a port (`enum dali_frame_kind`).
+    FrameKind { NoFrame = 0, ForwardFrame = 1, BackwardFrame = 2, DeviceFrame = 3, DamagedFrame = 4, NoPower = 5, }
 }
 
 fn done(status: u8) -> Result<(), Status> {

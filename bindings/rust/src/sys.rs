@@ -1,16 +1,17 @@
-//! The structs and calls of `include/dali_c.h`, by its names. All structs are bytes, without a gap.
+//! The structs and calls of `include/dali_c.h`, by its names. All structs are bytes, without a gap, but those of a port.
 #![allow(non_camel_case_types, missing_docs)]
 
 macro_rules! structs {
-    ($($name:ident $size:literal { $($field:ident: $kind:ty,)* })*) => {$(
+    ($align:literal: $($name:ident $size:literal { $($field:ident: $kind:ty,)* })*) => {$(
         #[repr(C)]
         #[derive(Clone, Copy, PartialEq, Eq)]
         pub struct $name { $(pub $field: $kind,)* }
-        const _: () = assert!(core::mem::size_of::<$name>() == $size && core::mem::align_of::<$name>() == 1);
+        const _: () = assert!(core::mem::size_of::<$name>() == $size && core::mem::align_of::<$name>() == $align);
     )*};
 }
 
 structs! {
+    1:
     dali_random 3 { high: u8, middle: u8, low: u8, }
     dali_pair 4 { short_address: u8, random_address: dali_random, }
     dali_record 5 { kind: u8, pair: dali_pair, }
@@ -28,6 +29,16 @@ structs! {
     dali_told 8 { kind: u8, bytes: [u8; 3], lasted: [u8; 4], }
     dali_window 16 { bytes: [u8; 16], }
     dali_heard 3 { is_over: u8, input: u8, byte: u8, }
+}
+
+structs! {
+    8:
+    dali_port 112 { words: [u64; 14], }
+}
+
+structs! {
+    4:
+    dali_event 16 { at: u32, is_low: u8, next: u8, input: u8, byte: u8, read: dali_told, }
 }
 
 extern "C" {
@@ -53,4 +64,9 @@ extern "C" {
     pub fn dali_receiver_new(receiver: *mut dali_receiver) -> u8;
     pub fn dali_receiver_edge(receiver: *mut dali_receiver, is_low: u8, micros: u32, told: *mut dali_told) -> u8;
     pub fn dali_receiver_time(receiver: *mut dali_receiver, micros: u32, told: *mut dali_told) -> u8;
+    pub fn dali_port_new(port: *mut dali_port, is_low: u8, now: u32, event: *mut dali_event) -> u8;
+    pub fn dali_port_send(port: *mut dali_port, order: *const dali_order, drawn: u32, now: u32, event: *mut dali_event) -> u8;
+    pub fn dali_port_edge(port: *mut dali_port, is_low: u8, now: u32, event: *mut dali_event) -> u8;
+    pub fn dali_port_lost(port: *mut dali_port, is_low: u8, now: u32, event: *mut dali_event) -> u8;
+    pub fn dali_port_timer(port: *mut dali_port, now: u32, event: *mut dali_event) -> u8;
 }

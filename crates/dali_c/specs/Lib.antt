@@ -11,6 +11,7 @@ pub mod Machines
 pub mod Levels
 pub mod Receivers
 pub mod Passes
+pub mod Port
 pub mod Calls
 pub mod Stops
 pub mod Hosts

@@ -15,6 +15,7 @@ mod machine;
 mod orders;
 mod pairs;
 mod passes;
+mod port;
 mod progress;
 mod purposes;
 mod receivers;

@@ -60,8 +60,12 @@ pub announced_in_part : {F : Type 0} (made began : F → F → Call → Type 0) 
     → IsBegun made began swap step x y
 announced_in_part made began swap step i name text at x y is named lies own call =
     subst (λ (s : Step). IsBegun made began swap s x y) (sym is)
-    (inr (name, named, inr (inl (subst (λ (a : List ℕ). began x y (Wrote a (swap_text swap))) lies
-    (subst (λ (t : List ℕ). began x y (Wrote at t)) own call)))))
+    (inr (
+      name,
+      named,
+      inr (inl (subst (λ (a : List ℕ). began x y (Wrote a (swap_text swap))) lies
+          (subst (λ (t : List ℕ). began x y (Wrote at t)) own call))),
+    ))
 
 pub set_aside_in_part : {F : Type 0} (made began : F → F → Call → Type 0) (swap : Swap) (step : Step) (i number : ℕ) (name to : List ℕ) (x y : F)
     → step ≡ SetAside i → IsNamed swap i name → number ≡ number_of swap → to ≡ kept_at name number → began x y (Renamed name to)

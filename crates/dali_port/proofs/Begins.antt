@@ -7,7 +7,7 @@ use Rattle.dali_port.specs.declared.state.{Port.Port, Phase.Phase}
 use Rattle.dali_port.specs.declared.state.Phase.TheVariants.{Free, Waiting, Sending, Breaking, Listening}
 use Rattle.dali_port.specs.declared.state.Sending.{Sending as Sent}
 use Rattle.dali_port.specs.Orders.{is_later}
-use Rattle.dali_port.specs.Frames.{begun_at, level_at, agreed_by, compared_by, compared, turned, next_of, sent_beyond, sent_until}
+use Rattle.dali_port.specs.Frames.{begun_at}
 use Rattle.dali_port.specs.Ports.{read_at, has_no_power, is_broken_off, listened_by, since_edge, until_in, until, edge_in, edged, lost_in, lost, on_course}
 use Rattle.dali_port.specs.Calls.{drive_of, drive_in, is_backwards, may_begin, is_too_late, timed_in, timed, timer_after}
 use Rattle.dali_port.specs.Calls.{same_level, edge_after, lost_after, refused, is_gone, taken, send_after, send_after_by}
@@ -16,15 +16,15 @@ use Rattle.dali_port.proofs.Words.{read_keeps}
 
 -- WHAT IS DRIVEN LOW
 
-low_in : (ph : Phase) (now : ℕ) → (drive_in ph now).is_low ≡ true → IsDrivenLow ph
-low_in Free now is = absurd (cc)
-low_in (Waiting order) now is = absurd (cc)
-low_in (Sending s) now is = is
-low_in (Breaking since) now is = tt {0}
-low_in (Listening l) now is = absurd (cc)
+low_in : (ph : Phase) (p : Port) → (drive_in ph p).is_low ≡ true → IsDrivenLow ph
+low_in Free p is = absurd (cc)
+low_in (Waiting order) p is = absurd (cc)
+low_in (Sending s) p is = is
+low_in (Breaking since) p is = tt {0}
+low_in (Listening l) p is = absurd (cc)
 
 pub low_is : (p : Port) → (drive_of p).is_low ≡ true → IsDrivenLow p.phase
-low_is p is = low_in p.phase p.called is
+low_is p is = low_in p.phase p is
 
 -- WHEN A FRAME BEGINS
 

@@ -1,4 +1,4 @@
-mod Halves
+mod Levels
 mod Words
 mod Begins
 mod Course
