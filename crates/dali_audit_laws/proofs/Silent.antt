@@ -125,8 +125,8 @@ module _ (b : Block) (xs : List Assignment) (s : Stage) (c : Command) (now : ℕ
   pub not_over : is_over bus.begun (item_of now drew c f).at f ≡ false → initialisation_over bus (item_of now drew c f) (seen.Sent f h) ≡ None
   not_over short = rw short refl
 
-  pub queried_next : not_queried bus (item_of now drew c f) (seen.Sent f h) ≡ None
-  queried_next = asked b xs s c bus.given bus (item_of now drew c f) f h on e k.given
+  pub queried_next : not_queried bus (seen.Sent f h) ≡ None
+  queried_next = asked b xs s c bus.given f h on e k.given
 
   pub settled_before : ((t : ℕ) → bus.settled ≡ Some t → t ≤ now) → settling_time bus (item_of now drew c f) (seen.Sent f h) ≡ None
   settled_before before = settled_by bus.settled now drew c f before
