@@ -29,7 +29,8 @@ use Rattle.dali_port.proofs.Course.{course_goes}
 
 -- WHAT A PORT KNOWS OF RANDOMISE is what it sent and read.
 
-noted_by : (b : Bool) (p : Port) (at : ℕ) → marks_of (if b then record p { randomise = Some at; draws = if follows p.randomise at then Some at else p.draws } else p)
+noted_by : (b : Bool) (p : Port) (at : ℕ)
+    → marks_of (if b then record p { randomise = Some at; draws = if follows p.randomise at then Some at else p.draws } else p)
     ≡ (if b then (Some at, if follows p.randomise at then Some at else p.draws) else marks_of p)
 noted_by true p at = refl
 noted_by false p at = refl

@@ -48,8 +48,8 @@ pub fn half_bits_are_in_time()
         → (lost_after p low now).phase ≡ Sending t → GoesOn s t now }
 {}
 
-/// Over any run a port knows when the last pair of RANDOMISE ended that it sent or read, and begins no frame within 100 ms
-/// after it.
+/// Over any run a port knows when the last pair of RANDOMISE ended that it sent or read, and begins no frame within
+/// 100 ms after it.
 pub fn nothing_is_sent_while_gear_draw()
     ensures known { (p : Port) (calls : List Call)
         → marks_of (after_all p calls) ≡ marks_after_all p (marks_of p) calls }
