@@ -349,14 +349,16 @@ visiting_sent s k x n gs numbers left c h v is taken seek =
     (omega arith))
     (λ high w to by. visit_next (stage.HighSent high) (stage.MiddleSent high n.middle) k x n gs _ left w
     (leaving.core_after (SearchMiddle n.middle) gs numbers tt) tt (w.searched, refl) refl (omega arith))
-    (λ high middle w to by. visit_next (stage.MiddleSent high middle) (stage.NumberSent (record { high = high; middle = middle; low = n.low })) k x n gs _ left w
+    (λ high middle w to by. visit_next (stage.MiddleSent high middle) (stage.NumberSent (record { high = high; middle = middle; low = n.low }))
+    k x n gs _ left w
     (leaving.core_after (SearchLow n.low) gs numbers tt) tt (whole n high middle w.searched.0 w.searched.1) refl (omega arith))
     (λ r w to by.
     let heard : h ≡ Byte (program_data None) =
     visit_heard gs n r w.more None h w.visited w.searched (by r refl) (to.apart w.ready)
     (λ i there on active enabled random. w.unnamed i there on enabled) to.heard in
     let there : queried r h ≡ stage.Unnamed r = ap (queried r) heard ∙ mask_queried r in
-    rw there (visit_next (stage.NumberSent r) (stage.Unnamed r) k x n gs _ left w (leaving.core_after QueryShort gs numbers tt) tt w.searched refl (omega arith)))
+    rw there (visit_next (stage.NumberSent r) (stage.Unnamed r) k x n gs _ left w (leaving.core_after QueryShort gs numbers tt) tt w.searched refl
+    (omega arith)))
     (λ r a small has w to by. given_sent r a k x n gs numbers left h w small has (by r refl))
     (λ r a w to by. named_sent r a k x n gs numbers left h w to (by r refl)) (λ r a w to by. withdraw_sent r a k x n gs numbers left h w (by r refl))
     s c v is v taken seek

@@ -125,7 +125,8 @@ vain_over g t o h r room gs asks next none v = go (has_open t) refl (nat_lt t.co
       some : (n : ℕ) → nat_lt n 3 ≡ false → 0 < n
       some n e = grind (arith, nat_tests, e)
   go false shut b few =
-      fills g t o (hunted t.course h) gs calm (begins_full (vain_next t h false b next shut few)) (vain_next t h false b next shut few) v.stands.calm.way v.counted
+      fills g t o (hunted t.course h) gs calm (begins_full (vain_next t h false b next shut few))
+      (vain_next t h false b next shut few) v.stands.calm.way v.counted
       v.known (all_taken t.kept t.heard (nothing_open t shut)) v.hand.one v.hand.holds
     where
       begins_full : next_course t ≡ full t (hunted t.course h) → o ≡ beginning (next_course t)

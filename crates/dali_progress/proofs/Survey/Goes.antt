@@ -150,7 +150,11 @@ first_acts start m o gs left told last g one holds v =
     let at : stage_of m.trace ≡ stage.Free = ap stage_of v.free ∙ stage_none in
     let begins : o ≡ beginning (next_course (machine_surveying m)) =
     given.begins_free (machine_surveying m) o g v.free (no_enrolment_yet m.last last) (never_eight m.tries v.tries) in (
-      asks_on start (machine_surveying m) o 0 gs left (record { untried = v.tries; loud = v.silent; smooth = record { way = refl; passed = refl; unmissed = refl } }) begins
+      asks_on start (machine_surveying m) o 0 gs left (record {
+        untried = v.tries;
+        loud = v.silent;
+        smooth = record { way = refl; passed = refl; unmissed = refl };
+      }) begins
           (ap (begins_at (machine_surveying m)) at ∙ ap (at_rest (machine_surveying m)) last)
           (record { unopened = v.unopened; undrawn = refl; loud = refl }) v.unasked v.first (omega arith)
           (λ e. subst IsSettled (sym v.kept) e) (λ c q has. v.unmarked c) one holds v.same (below_none start.gear m.kept.enrolled gs)

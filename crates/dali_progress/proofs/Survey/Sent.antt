@@ -86,7 +86,8 @@ visit_behind s k n gs numbers left l behind c h less v is seek count =
     (λ high middle w by b. leaving.core_count_wanted gs _ (leaving.core_after (SearchLow n.low) gs numbers tt) ∙ b)
     (λ r w by b. behind_by (queried r h) behind _ l (leaving.core_count_wanted gs _ (leaving.core_after QueryShort gs numbers tt) ∙ b) (first_query r h))
     (λ r a small has w by b. programming.programmed_count gs numbers r a (by r refl) ∙ b)
-    (λ r a w by b. behind_by (verified r a h) behind _ l (leaving.core_count_wanted gs _ (leaving.core_after QueryShort gs numbers tt) ∙ b) (second_query r a h))
+    (λ r a w by b. behind_by (verified r a h) behind _ l (leaving.core_count_wanted gs _ (leaving.core_after QueryShort gs numbers tt) ∙ b)
+    (second_query r a h))
     (λ r a w by b. (
       (let fewer : count_by is_wanted (row_after Everyone Withdraw 0 gs numbers) < count_by is_wanted gs =
           withdrawing.withdrawn_count gs numbers r (by r refl)
