@@ -29,7 +29,7 @@ abbrev pub AreVacant : ℕ → List (String Global) → Folder → Type 0
 AreVacant number [] x = Unit {0}
 AreVacant number (name ∷ more) x = (x (kept_at (string_bytes name) number) ≡ None) × AreVacant number more x
 
-not_there : (o : Option (List ℕ)) → false ≡ is_some o → o ≡ None
+pub not_there : (o : Option (List ℕ)) → false ≡ is_some o → o ≡ None
 not_there None is = refl
 not_there (Some it) is = absurd (cc)
 
@@ -91,14 +91,14 @@ put number [] x y z there free had same = subst (λ (p : Program). Had number x 
 put number (name ∷ more) x y z there free had (w, first, rest) =
     put number more x w z there.1 free.1 (once number (string_bytes name) x y w there.0 free.0 had first) rest
 
-running : (calls : List Call) (x y : Program) → AreMade Makes calls x y → y.runs ≡ true → x.runs ≡ true
+pub running : (calls : List Call) (x y : Program) → AreMade Makes calls x y → y.runs ≡ true → x.runs ≡ true
 running calls x y made runs = go x.runs refl
   where
     go : (a : Bool) → x.runs ≡ a → x.runs ≡ true
     go true is = is
     go false not = let stopped = (none_done calls x y made not).0 in absurd (cc)
 
-well : (call : Call) (x y : Program) → x.runs ≡ true → y.runs ≡ true → Makes x y call → IsAfter call x.folder y.folder
+pub well : (call : Call) (x y : Program) → x.runs ≡ true → y.runs ≡ true → Makes x y call → IsAfter call x.folder y.folder
 well call x y before runs made =
     subst (λ (a : Bool). HasMade a true x.folder y.folder call) before (subst (λ (b : Bool). HasMade x.runs b x.folder y.folder call) runs made)
 

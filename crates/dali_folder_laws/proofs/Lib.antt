@@ -5,6 +5,7 @@ mod Looked
 mod Over
 mod Truths
 mod Asides
+mod News
 mod Apart
 mod System
 mod Machines

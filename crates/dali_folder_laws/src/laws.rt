@@ -9,17 +9,21 @@ ghost use Rattle.dali_replacement.specs.declared.swapping.Swap.{Swap};
 ghost use Rattle.dali_replacement.specs.Swap.{step_after};
 ghost use Rattle.dali_replacement.specs.Swapping.{names_of};
 ghost use Rattle.dali_commission_stores.specs.Seen.{IsMoment};
-ghost use Rattle.dali_commission_stores.specs.Settling.{IsDone, count_of};
+ghost use Rattle.dali_commission_stores.specs.Settling.{IsDone, count_of, new_at};
+ghost use Rattle.dali_commission_stores.specs.Keeping.{IsAside};
+ghost use Rattle.dali_commission_stores.specs.Lent.{lent_calls};
 ghost use Rattle.dali_folder.specs.Events.{Event, AreBegun};
 ghost use Rattle.dali_folder.specs.Folder.{Folders, IsSettled, Happen};
 ghost use Rattle.dali_folder_laws.specs.Asides.{PutsAside, PutAsideOften, AreAway, HasStill, HasBehind};
-ghost use Rattle.dali_folder_laws.specs.Folder.{Folder, IsAfter, IsCalled, Leaves};
+ghost use Rattle.dali_folder_laws.specs.Asides.{LiesOrAside};
+ghost use Rattle.dali_folder_laws.specs.Folder.{Folder, IsAfter, IsCalled, IsUsed, Leaves};
 ghost use Rattle.dali_folder_laws.specs.Moments.{Itself, Journal, IsPart, Differ, MayBegin, Files, IsBefore, IsBehind};
 ghost use Rattle.dali_folder_laws.specs.Moments.{IsAt, IsAtSome, AllOld, AllNew, AllAnnounced};
-ghost use Rattle.dali_folder_laws.specs.Stops.{Program, starting, Sees, Exchanges, Settles, SettleOften, ended_as};
+ghost use Rattle.dali_folder_laws.specs.Stops.{Program, starting, Makes, Sees, Exchanges, Settles, SettleOften};
+ghost use Rattle.dali_folder_laws.specs.Stops.{ended_as};
 ghost use Rattle.dali_folder_laws.specs.System.{but_for, asked_by, AreFit, IsThere, Machine, Fits, MachineExchanges};
 ghost use Rattle.dali_folder_laws.specs.System.{MachineSettles, MachinesSettle};
-ghost use Rattle.dali_commission_stores.specs.Calls.{Call};
+ghost use Rattle.dali_commission_stores.specs.Calls.{Call, AreMade};
 
 /// AN EXCHANGE OVER A CRASH. An exchange is begun and stopped at any of its calls; so are any programs that settle it,
 /// one after the other. Then one settles it and is not stopped: each new file has taken the place of its old one, which
@@ -77,6 +81,18 @@ pub fn what_is_put_aside_is_not_lost()
         → PutsAside records names number x y → y.runs ≡ true → AreAway names y.folder }
     ensures often { (records : List (String Global)) (often : ℕ) (x y : Folder) (at had : List ℕ)
         → PutAsideOften records often x y → x at ≡ Some had → HasBehind y at had }
+{}
+
+/// A NEW FILE OVER A CRASH, that of a first run (`lent`), or one that is put aside. Whenever it is stopped, each other
+/// name has what it had, and the file and its log have what SQLite leaves. One that is put aside lies there still, or
+/// under its new name (`lies`). If it is not stopped, nothing lies there (`away`): so a later call puts it aside.
+pub fn a_new_file_is_used_or_put_aside()
+    ensures lent { (name : List ℕ) (x : Folder) (y : Program) → AreMade Makes (lent_calls name) (starting x) y
+        → IsUsed name x y.folder }
+    ensures lies { (name : List ℕ) (x : Folder) (y : Program)
+        → IsAside Makes Sees (λ _. Unit {0}) name (starting x) y → LiesOrAside name x y.folder }
+    ensures away { (name : List ℕ) (x : Folder) (y : Program)
+        → IsAside Makes Sees (λ _. Unit {0}) name (starting x) y → y.runs ≡ true → y.folder (new_at name) ≡ None }
 {}
 
 /// THE SYSTEM LEAVES NO MORE: a call that is stopped within what it asks of the system leaves a folder as before it or
