@@ -59,7 +59,8 @@ spelled_now s earlier a b p v f h byte is purpose here last given whole = by (he
       → IsToCome (machine_after s.before (input.Heard h) s.order) a
   goes r c at turn =
       let number : (machine_told s.before (input.Heard h)).course.number ≡ s.before.course.number = ap (λ (t : Machine). t.course.number) told in
-      let turns : turn_of (machine_told s.before (input.Heard h)).course.purpose (machine_told s.before (input.Heard h)).course.number (stage_of (machine_told s.before (input.Heard h)).trace) ≡ Some c = rw (asks, number, stage_is r at) turn in
+      let turns : turn_of (machine_told s.before (input.Heard h)).course.purpose (machine_told s.before (input.Heard h)).course.number
+      (stage_of (machine_told s.before (input.Heard h)).trace) ≡ Some c = rw (asks, number, stage_is r at) turn in
       subst (λ o. IsToCome (machine_ordered (machine_told s.before (input.Heard h)) o) a) (sym (given.followed.sent c turns)) (
         b,
         ap (λ c. c.purpose) (course_stays (machine_told s.before (input.Heard h)) r (stage_is r at)
