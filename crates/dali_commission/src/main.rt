@@ -3,7 +3,7 @@
 #![tactic(auto)]
 
 use dali_commission_files::Files;
-use dali_commission_program::{DriverLink, Stores, run_and_say};
+use dali_commission_program::{DriverLink, Session, Stores, run_and_say};
 use dali_console::exit_code;
 use dali_folder::System;
 use std::io;
@@ -14,8 +14,8 @@ use std::process::ExitCode;
 /// reads the output.
 fn serves<F: Stores>(rt: &HostRuntime, places: &mut F) -> ExitCode {
     let is_terminal = IsTerminal::is_terminal(&rt.stderr());
-    let mut driver = DriverLink::new(rt.alloc(), rt.reader(), io::writer(rt));
-    exit_code(run_and_say(rt, places, &mut driver, is_terminal))
+    let driver = DriverLink::new(rt.alloc(), rt.reader(), io::writer(rt));
+    exit_code(run_and_say(rt, places, &mut Session::new(driver), is_terminal))
 }
 
 fn main(rt: HostRuntime) -> ExitCode {

@@ -12,7 +12,7 @@ use Rattle.dali_commissioning.specs.declared.{conducting.PassEnd.PassEnd, fault.
 use Rattle.dali_commissioning.specs.declared.conducting.{Ended.Ended, Ended.TheVariants.Done, Ended.TheVariants.Halted}
 use Rattle.dali_commissioning.proofs.{Questions.asks_both, Questions.asks_none, Questions.answered, Questions.cleared, Questions.counted, Questions.arc_power}
 use Rattle.dali_commissioning.proofs.Puttings.{unaddressed}
-use Rattle.dali_commission_said.specs.{Reports.heard_of, declared.failure.Failure.Failure, declared.said.Said.Said}
+use Rattle.dali_commission_said.specs.{Reports.heard_of, declared.failure.Failure.Failure, declared.report.Report.Report, declared.said.Said.Said}
 use Rattle.dali_commission_stores.specs.Calls.{Look}
 use Rattle.dali_commission_asked.specs.Came.{IsLitOnce, IsLitBy, IsLit, HasBlinked, HasShown, HasAskedAll, HasChecked, IsCheckOf, check_ended}
 use Rattle.dali_commission_asked.specs.Ending.{AnswersAt, If, IsAnyAt, is_asked, all_if, OrUnaddressed, HasAsked, IsAskedAgain, AreAskedAgain, none_left}
@@ -69,17 +69,18 @@ checked_so : (beside : Kept → Type 0) (others : List Block) (heard : Bool) (li
 checked_so beside others heard line x y (Ok found) (is, asked) ended = asked_all others found x y asked
 checked_so beside others heard line x y (Err fault) none ended = absurd (ok_err _ ended)
 
-checked : (beside : Kept → Type 0) (told : Said → Type 0) (others : List Block) (heard : Bool) (line : ℕ) (x y : Talk)
-    (ended : Result (Unit {0}) Failure) → ended ≡ Ok (tt {0}) → HasChecked beside told others heard line x y ended → AsksByRules x y
-checked beside told others heard line x y ended well (found, is, so, said, cut) =
+checked : (beside : Kept → Type 0) (told : Said → Type 0) (others : List Block) (heard : Bool) (line : ℕ) (x y : Talk) (report : Report)
+    (ended : Result (Unit {0}) Failure) → ended ≡ Ok (tt {0}) → HasChecked beside told others heard line x y report ended → AsksByRules x y
+checked beside told others heard line x y report ended well (found, is, so, reports, said, cut) =
     checked_so beside others heard line x y found is (sym well ∙ so)
 
 pub check : {F : Type 0} (saw : F → Look → Type 0) (stores : F) (told : Said → Type 0) (others : List Block) (heard : Bool)
-    (line : ℕ) (x y : Talk) (first : Option (List ℕ))
-    → IsCheckOf saw stores told others heard line x y (Ok (tt {0})) first → AsksByRules x y
-check saw stores told others heard line x y None is = checked _ told others heard line x y (Ok (tt {0})) refl is
-check saw stores told others heard line x y (Some name) (inl (err, same)) = absurd (false≢true err)
-check saw stores told others heard line x y (Some name) (inr (done, is, so)) = checked _ told others heard line x y done so is
+    (line : ℕ) (x y : Talk) (before report : Report) (first : Option (List ℕ))
+    → IsCheckOf saw stores told others heard line x y before report (Ok (tt {0})) first → AsksByRules x y
+check saw stores told others heard line x y before report None is = checked _ told others heard line x y report (Ok (tt {0})) refl is
+check saw stores told others heard line x y before report (Some name) (inl (err, same, kept)) = absurd (false≢true err)
+check saw stores told others heard line x y before report (Some name) (inr (done, is, so)) =
+    checked _ told others heard line x y report done so is
 
 -- ---------------------------------------------------------------- what is asked at last
 

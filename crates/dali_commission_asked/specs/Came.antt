@@ -9,7 +9,6 @@ use Rattle.dali_script.specs.Records.{Kept, without_records}
 use Rattle.dali_special.specs.Command.{frame}
 use Rattle.dali_commissioning.specs.declared.beginning.Checked.{Checked}
 use Rattle.dali_commissioning.specs.declared.fault.CommissionFault.{CommissionFault}
-use Rattle.dali_commissioning.specs.declared.verdict.Place.{Place}
 use Rattle.dali_commissioning.specs.declared.census.Reply.{Reply}
 use Rattle.dali_commissioning.specs.Census.{IsPut, IsAnswered, AreCounted, is_sent, is_silent}
 use Rattle.dali_commissioning.specs.Drivers.{Talk, IsCut, IsCutBeside}
@@ -21,22 +20,19 @@ use Rattle.dali_commission_said.specs.declared.failure.Failure.{Failure}
 use Rattle.dali_commission_said.specs.declared.failure.Failure.TheVariants.{NobodyThere}
 use Rattle.dali_commission_said.specs.declared.said.Said.{Said}
 use Rattle.dali_commission_said.specs.Failures.{checked, failure_of}
-use Rattle.dali_commission_said.specs.Reports.{checked_said}
+use Rattle.dali_commission_said.specs.Reports.{no_report}
+use Rattle.dali_commission_said.specs.Reports as reports
+use Rattle.dali_commission_said.specs.declared.report.Report.{Report}
 use Rattle.dali_commission_said.specs.Said.{AreTold}
 use Rattle.dali_commission_stores.specs.Calls.{Look, Read}
 use Rattle.dali_commission_asked.specs.Ending.{If}
 use Rattle.dali_commission_asked.specs.Sharing.{is_shared, is_open, or_open}
 
--- WHAT A CHECK COMES TO, by what it found, or why it could not be made: how it ends, what is said
--- of it, and what stands where
-abbrev pub check_places : Result Checked CommissionFault → List Block → List Place
-check_places (Ok found) others = places found.kept others found.replies.items
-check_places (Err fault) others = []
-
-abbrev pub check_said : Result Checked CommissionFault → List Block → List Said
-check_said (Ok found) others =
-    checked_said found.kept (places found.kept others found.replies.items) found.has_unaddressed
-check_said (Err fault) others = []
+-- WHAT A CHECK COMES TO, by what it found, or why it could not be made: what is reported of it, and
+-- how it ends
+abbrev pub check_reported : Result Checked CommissionFault → List Block → Report
+check_reported (Ok found) others = reports.check_reported found others
+check_reported (Err fault) others = no_report
 
 abbrev pub check_ended : Result Checked CommissionFault → List Block → Bool → ℕ
     → Result (Unit {0}) Failure
@@ -123,14 +119,15 @@ HasAskedAll others found x y =
     × (length found.replies.items ≡ 64)
     × AreLeftOver asking found.has_unaddressed at y
 
--- A CHECK beside these records ends by what it found, and has said that; or it was cut short
+-- A CHECK beside these records ends by what it found, and has reported that; or it was cut short
 abbrev pub HasChecked : (Kept → Type 0) → (Said → Type 0) → List Block → Bool → ℕ → Talk → Talk
-    → Result (Unit {0}) Failure → Type 0
-HasChecked beside told others heard line x y ended =
+    → Report → Result (Unit {0}) Failure → Type 0
+HasChecked beside told others heard line x y report ended =
     (found : Result Checked CommissionFault)
     × IfOk found (λ it. beside it.kept × HasAskedAll others it x y)
     × (ended ≡ check_ended found others heard line)
-    × AreTold told (check_said found others)
+    × (report ≡ record (check_reported found others) { frames = line })
+    × AreTold told report.said.items
     × IfErr found (λ reason. IsCutBeside reason x y)
 
 -- It is one beside no records, or beside those of a name as they were seen, if they can be had.
@@ -138,11 +135,12 @@ abbrev pub no_records : Kept
 no_records = without_records (record { first = 0; last = 63 })
 
 abbrev pub IsCheckOf : {F : Type 0} → (F → Look → Type 0) → F → (Said → Type 0) → List Block
-    → Bool → ℕ → Talk → Talk → Result (Unit {0}) Failure → Option (List ℕ) → Type 0
-IsCheckOf saw stores told others heard line x y result None =
-    HasChecked (λ kept. kept ≡ no_records) told others heard line x y result
-IsCheckOf saw stores told others heard line x y result (Some name) =
-    (IsErr result × (y ≡ x))
+    → Bool → ℕ → Talk → Talk → Report → Report → Result (Unit {0}) Failure → Option (List ℕ)
+    → Type 0
+IsCheckOf saw stores told others heard line x y before report result None =
+    HasChecked (λ kept. kept ≡ no_records) told others heard line x y report result
+IsCheckOf saw stores told others heard line x y before report result (Some name) =
+    (IsErr result × (y ≡ x) × (report ≡ before))
     ⊎ ((done : Result (Unit {0}) Failure)
-    × HasChecked (λ kept. saw stores (Read name kept)) told others heard line x y done
+    × HasChecked (λ kept. saw stores (Read name kept)) told others heard line x y report done
     × IfOk result (λ out. done ≡ Ok out))

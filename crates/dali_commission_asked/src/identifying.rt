@@ -5,6 +5,7 @@ ghost use Rattle.dali_commissioning.specs.declared.census.Reply.{Reply};
 ghost use Rattle.dali_commissioning.specs.Census.{IsAnswered, is_silent};
 ghost use Rattle.dali_commissioning.specs.Drivers.{talk_of, is_lost, lines_of};
 ghost use Rattle.dali_commission_said.specs.declared.failure.Failure.TheVariants.{GaveUp};
+ghost use Rattle.dali_commission_said.specs.Reports.{no_report};
 ghost use Rattle.dali_commission_asked.specs.Came.{IsLit, IsLitBy, IsLitOnce, HasBlinked, IsCutAs, IsNotThere};
 ghost use Rattle.dali_commission_asked.specs.Came.{IsShowing};
 
@@ -159,8 +160,9 @@ pub fn identify<S: Voice + Clock, R: Read, W: Write>(
     short: Short,
     report: &mut Report,
 ) -> Result<(), Failure>
-    ensures { IsShowing short result (lines_of driver.new) (talk_of R.remaining W.contents driver.old)
+    ensures shows { IsShowing short result (lines_of driver.new) (talk_of R.remaining W.contents driver.old)
         (talk_of R.remaining W.contents driver.new) }
+    ensures report { report.new ≡ record no_report { frames = lines_of driver.new } }
 {
     let ended = shows(system, driver, short);
     Came::bare(ended).told(system, driver, report)

@@ -1,29 +1,27 @@
-use Rattle.std.proofs.Common.{◌≡◌, ℕ, List, [], ◌∷◌, ◌++◌, Bool, Result, Ok, Err, ap, subst, sym, ◌∙◌, inl}
+use Rattle.std.proofs.Common.{◌≡◌, ℕ, List, [], ◌∷◌, Bool, Result, Ok, Err, ap, subst, sym, ◌∙◌, inl}
 use Rattle.std.specs.Prelude.{IfErr, IsErrAnd}
 use Rattle.dali_script.specs.Records.{without_records}
-use Rattle.dali_commissioning.specs.{Drivers.Talk, Places.places, declared.{census.Reply.Reply, fault.CommissionFault.CommissionFault, verdict.Place.Place}}
-use Rattle.dali_commission_said.specs.declared.reports.Which.TheVariants.{All}
+use Rattle.dali_commissioning.specs.{Drivers.Talk, Places.places, declared.{census.Reply.Reply, fault.CommissionFault.CommissionFault}}
 use Rattle.dali_commission_said.specs.declared.said.Said.{Said}
-use Rattle.dali_commission_said.specs.{Failures.failure_of, Said.{AreTold, places_said}}
-use Rattle.dali_commission_cleared.specs.Clearing.{AreCleared, IsFollowed, ClearsTo, cleared_as, cleared_said, all_shorts}
+use Rattle.dali_commission_said.specs.{Failures.failure_of, Reports.no_report, Said.AreTold, declared.{report.Came.Came, report.Report.Report}}
+use Rattle.dali_commission_cleared.specs.Clearing.{AreCleared, IsFollowed, ClearsTo, cleared_as, clear_reported, all_shorts}
 use Rattle.dali_commission_cleared.specs.Clearing.{AreRoundsCut, IsClearCut, IsClearedSo}
 use Rattle.dali_commission_said.specs.declared.failure.Failure.{Failure}
 
 -- what a clear comes to, by what was seen and told of the replies
-pub cleared : (replies seen told : List Reply) (found : Bool) (x at y : Talk) (ended : Result (Unit {0}) Failure) (lines : List Said) (stand : List Place)
+pub cleared : (replies seen told : List Reply) (found : Bool) (x at y : Talk) (ended : Result (Unit {0}) Failure) (came : Report)
     → AreCleared (1 ∷ 2 ∷ 3 ∷ 4 ∷ []) [] replies x at → seen ≡ replies → IsFollowed seen found at y → told ≡ replies
-    → ended ≡ cleared_as told found → stand ≡ places (without_records all_shorts) [] told
-    → lines ≡ places_said All 0 stand ++ cleared_said ended
-    → ClearsTo ended lines stand x y
-cleared replies seen told found x at y ended lines stand are is follows so ends stands says = (
+    → ended ≡ cleared_as told found → came ≡ clear_reported (places (without_records all_shorts) [] told) (cleared_as told found)
+    → ClearsTo came ended x y
+cleared replies seen told found x at y ended came are is follows so ends reports = (
   replies,
   found,
   at,
   are,
   subst (λ (r : List Reply). IsFollowed r found at y) is follows,
   ends ∙ ap (λ (r : List Reply). cleared_as r found) so,
-  stands ∙ ap (λ (r : List Reply). places (without_records all_shorts) [] r) so,
-  says,
+  reports ∙ ap (λ (e : Result (Unit {0}) Failure). clear_reported (places (without_records all_shorts) [] told) e) (sym ends)
+      ∙ ap (λ (r : List Reply). clear_reported (places (without_records all_shorts) [] r) ended) so,
 )
 
 -- it is cut short if a round is, with the same reason
@@ -33,12 +31,23 @@ rounds_cut reason x y (Ok done) is cut = tt
 rounds_cut reason x y (Err e) is cut = inl (subst (λ (f : CommissionFault). AreRoundsCut (1 ∷ 2 ∷ 3 ∷ 4 ∷ []) f x y) (sym is) cut)
 
 -- and so it ends, cut short or not
-pub ends_cut : (reason : CommissionFault) (line : ℕ) (x y : Talk) (why : Failure) (ended result : Result (Unit {0}) Failure) → result ≡ ended
-    → ended ≡ Err why → why ≡ failure_of reason line → IsClearCut reason x y
-    → (r : CommissionFault) × (n : ℕ) × (result ≡ Err (failure_of r n)) × IsClearCut r x y
-ends_cut reason line x y why ended result same is of cut = (reason, line, same ∙ is ∙ ap (λ (f : Failure). Err f) of, cut)
+pub ends_cut : (reason : CommissionFault) (line frames : ℕ) (x y : Talk) (why : Failure) (from came : Came) (result : Result (Unit {0}) Failure)
+    (report : Report) → from ≡ came → result ≡ from.ended → report ≡ record from.report { frames = frames }
+    → came ≡ record { report = no_report; ended = Err why } → why ≡ failure_of reason line → line ≡ frames → IsClearCut reason x y
+    → (r : CommissionFault) × (result ≡ Err (failure_of r frames)) × (report ≡ record no_report { frames = frames }) × IsClearCut r x y
+ends_cut reason line frames x y why from came result report same ends reports is of counts cut = (
+  reason,
+  ends ∙ ap (λ (c : Came). c.ended) (same ∙ is) ∙ ap (λ (f : Failure). Err f) (of ∙ ap (λ (n : ℕ). failure_of reason n) counts),
+  reports ∙ ap (λ (c : Came). record c.report { frames = frames }) (same ∙ is),
+  cut,
+)
 
-pub ends_so : (told : Said → Type 0) (x y : Talk) (ended result : Result (Unit {0}) Failure) (lines : List Said) (stand : List Place) → result ≡ ended
-    → ClearsTo ended lines stand x y → AreTold told lines → IsClearedSo told x y result
-ends_so told x y ended result lines stand same clears tells =
-    (lines, stand, subst (λ (e : Result (Unit {0}) Failure). ClearsTo e lines stand x y) (sym same) clears, tells)
+pub ends_so : (told : Said → Type 0) (x y : Talk) (frames : ℕ) (from came : Came) (result : Result (Unit {0}) Failure) (report : Report)
+    → from ≡ came → result ≡ from.ended → report ≡ record from.report { frames = frames } → AreTold told from.report.said.items
+    → ClearsTo came.report came.ended x y → IsClearedSo told x y frames report result
+ends_so told x y frames from came result report same ends reports tells clears = (
+  came.report,
+  subst (λ (e : Result (Unit {0}) Failure). ClearsTo came.report e x y) (sym (ends ∙ ap (λ (c : Came). c.ended) same)) clears,
+  reports ∙ ap (λ (c : Came). record c.report { frames = frames }) same,
+  subst (λ (c : Came). AreTold told c.report.said.items) same tells,
+)

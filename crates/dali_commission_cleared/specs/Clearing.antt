@@ -24,6 +24,8 @@ use Rattle.dali_commission_stores.specs.Calls.{Call, Renamed, Look, AreMade}
 use Rattle.dali_commission_stores.specs.Calls as look
 use Rattle.dali_commission_cleared.specs.Erasing.{begun, erasing_next, erasing_told}
 use Rattle.dali_commission_asked.specs.Frames.{AreFrames}
+use Rattle.dali_commission_said.specs.declared.report.Report.{Report}
+use Rattle.dali_commission_said.specs.Reports.{no_report, places_reported}
 use Rattle.dali_commission_said.specs.declared.reports.Which.TheVariants as which
 use Rattle.dali_commission_said.specs.declared.said.Said.{Said}
 use Rattle.dali_commission_said.specs.declared.said.Said.TheVariants as said
@@ -182,36 +184,41 @@ abbrev pub cleared_said : Result (Unit {0}) Failure → List Said
 cleared_said (Ok done) = said.Cleared ∷ []
 cleared_said (Err failure) = []
 
-abbrev pub ClearsTo : Result (Unit {0}) Failure → List Said → List Place → Talk → Talk → Type 0
-ClearsTo ended lines stand x y =
+-- with what stands where, and what is said of it, in the report
+abbrev pub clear_reported : List Place → Result (Unit {0}) Failure → Report
+clear_reported stand ended =
+    places_reported stand (places_said which.All 0 stand ++ cleared_said ended)
+
+abbrev pub ClearsTo : Report → Result (Unit {0}) Failure → Talk → Talk → Type 0
+ClearsTo came ended x y =
     (replies : List Reply)
     × (found : Bool)
     × (at : Talk)
     × AreCleared (1 ∷ 2 ∷ 3 ∷ 4 ∷ []) [] replies x at
     × IsFollowed replies found at y
     × (ended ≡ cleared_as replies found)
-    × (stand ≡ places (without_records all_shorts) [] replies)
-    × (lines ≡ places_said which.All 0 stand ++ cleared_said ended)
+    × (came ≡ clear_reported (places (without_records all_shorts) [] replies) ended)
 
 -- A CLEAR first puts the files aside: nothing is put if that fails. Then it says which gear still
--- answer, and ends so; or the bus fails.
-abbrev pub IsClearedSo : (Said → Type 0) → Talk → Talk → Result (Unit {0}) Failure → Type 0
-IsClearedSo told x y ended =
-    (lines : List Said)
-    × (stand : List Place)
-    × ClearsTo ended lines stand x y
-    × AreTold told lines
+-- answer, and ends so; or the bus fails. So many frames were put, and that is reported.
+abbrev pub IsClearedSo : (Said → Type 0) → Talk → Talk → ℕ → Report → Result (Unit {0}) Failure
+    → Type 0
+IsClearedSo told x y frames report ended =
+    (came : Report)
+    × ClearsTo came ended x y
+    × (report ≡ record came { frames = frames })
+    × AreTold told came.said.items
 
 abbrev pub HasCleared : {F : Type 0} → (F → F → Call → Type 0) → (F → Look → Type 0)
-    → (Said → Type 0) → List (String Global) → F → F → Talk → Talk → Result (Unit {0}) Failure
-    → Type 0
-HasCleared {F = F} made saw told records was now x y ended =
-    (IsErr ended × (y ≡ x))
+    → (Said → Type 0) → List (String Global) → F → F → Talk → Talk → ℕ → Report → Report
+    → Result (Unit {0}) Failure → Type 0
+HasCleared {F = F} made saw told records was now x y frames before report ended =
+    (IsErr ended × (y ≡ x) × (report ≡ before))
     ⊎ ((mid : F)
     × ArePutAside made saw told records was mid
     × AreNewAside made saw told records mid now
     × (((reason : CommissionFault)
-    × (line : ℕ)
-    × (ended ≡ Err (failure_of reason line))
+    × (ended ≡ Err (failure_of reason frames))
+    × (report ≡ record no_report { frames = frames })
     × IsClearCut reason x y)
-    ⊎ IsClearedSo told x y ended))
+    ⊎ IsClearedSo told x y frames report ended))

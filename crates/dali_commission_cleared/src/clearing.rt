@@ -1,16 +1,15 @@
 //! `clear`: all gear lose their short addresses.
 
-ghost use Rattle.std.specs.Prelude.{◌≡◌, ◌≤◌, false, ◌++◌, [], None, IfOk, IfErr, OnOk, length, not};
+ghost use Rattle.std.specs.Prelude.{◌≡◌, ◌≤◌, false, [], None, IfOk, IfErr, OnOk, length, not};
 ghost use Rattle.std.specs.List.{list_any};
 ghost use Rattle.dali_script.specs.Records.{without_records};
 ghost use Rattle.dali_commissioning.specs.Census.{is_silent};
-ghost use Rattle.dali_commissioning.specs.Drivers.{talk_of, IsCut};
+ghost use Rattle.dali_commissioning.specs.Drivers.{talk_of, lines_of, IsCut};
 ghost use Rattle.dali_commissioning.specs.Places.{places};
 ghost use Rattle.dali_commission_cleared.specs.Erasing.{erasing_next};
 ghost use Rattle.dali_commission_cleared.specs.Clearing.{HaveErased, IsRound, AreCleared, IsFollowed, is_any};
-ghost use Rattle.dali_commission_cleared.specs.Clearing.{cleared_said, ClearsTo, HasCleared, all_shorts, IsEraseCut};
+ghost use Rattle.dali_commission_cleared.specs.Clearing.{clear_reported, ClearsTo, HasCleared, all_shorts, IsEraseCut};
 ghost use Rattle.dali_commission_cleared.specs.Clearing.{IsRoundCut, AreRoundsCut, IsClearCut, cleared_as};
-ghost use Rattle.dali_commission_said.specs.Said.{places_said};
 
 use crate::aside::{Aside, put_aside, put_new_aside};
 use crate::eraser::Eraser;
@@ -148,9 +147,8 @@ fn cleared_as(replies: &[Reply], is_there: bool) -> Result<(), Failure>
 fn came_of(replies: &[Reply], is_there: bool) -> Came
     requires { length replies.now ≤ 64 }
     ensures ended { result.ended ≡ cleared_as replies.now is_there }
-    ensures places { result.report.places.items ≡ places (without_records all_shorts) [] replies.now }
-    ensures said { result.report.said.items
-        ≡ places_said Which.All 0 result.report.places.items ++ cleared_said result.ended }
+    ensures report { result.report ≡ clear_reported (places (without_records all_shorts) [] replies.now)
+        (cleared_as replies.now is_there) }
 {
     let ended = cleared_as(replies, is_there);
     let places = places(&no_records(), &[], replies);
@@ -175,7 +173,7 @@ fn came_to<S: Voice, R: Read, W: Write>(
     progress: &Progress<'_, S>,
     _aside: &Aside,
 ) -> Result<Came, CommissionFault>
-    ensures clears { IfOk result (λ came. ClearsTo came.ended came.report.said.items came.report.places.items
+    ensures clears { IfOk result (λ came. ClearsTo came.report came.ended
         (talk_of R.remaining W.contents driver.old) (talk_of R.remaining W.contents driver.new)) }
     ensures failed { IfErr result (λ reason. IsClearCut reason
         (talk_of R.remaining W.contents driver.old) (talk_of R.remaining W.contents driver.new)) }
@@ -201,7 +199,8 @@ where
     R: Read,
     W: Write,
     ensures { HasCleared F.made F.saw (S.told system.now) records.now stores.old stores.new
-        (talk_of R.remaining W.contents driver.old) (talk_of R.remaining W.contents driver.new) result }
+        (talk_of R.remaining W.contents driver.old) (talk_of R.remaining W.contents driver.new) (lines_of driver.new)
+        report.old report.new result }
 {
     let aside = put_aside(system, stores, records)?;
     put_new_aside(system, stores, records)?;

@@ -14,7 +14,9 @@ use Rattle.dali_replacement.specs.Tables.{Keeps, Reserves}
 use Rattle.dali_mending.specs.Mending.{Mending, mending_begun}
 use Rattle.dali_commission_said.specs.declared.failure.Failure.{Failure}
 use Rattle.dali_commission_said.specs.declared.failure.Failure.TheVariants.{NobodyAnswered}
+use Rattle.dali_commission_said.specs.declared.report.Report.{Report}
 use Rattle.dali_commission_said.specs.Failures.{failure_of}
+use Rattle.dali_commission_said.specs.Reports.{no_report}
 use Rattle.dali_commission_tasks.specs.declared.tasks.Mend.{Mend}
 use Rattle.dali_commission_asked.specs.Came.{IsCutAs}
 use Rattle.dali_commission_asked.specs.Sharing.{meant_from, refused_from, is_any_bare}
@@ -131,15 +133,17 @@ FromCut is_up is_sound holds kept_of block table records others wanted failure k
     ⊎ ToCut is_up is_sound holds kept_of block table records others wanted replies failure keep at
     y))
 
--- A MEND ENDS SO, well or not
+-- A MEND ENDS SO, well or not. Nothing is reported of one that is cut short.
 abbrev pub EndsMend : {S : Type 0} (is_up is_sound : S → Type 0)
     (holds : S → List Record → Type 0) (kept_of : S → Kept) → Block → Kept → Kept → List Block
-    → Mend → List Mending → S → S → Talk → Talk → Result (Unit {0}) Failure → Type 0
-EndsMend is_up is_sound holds kept_of block table records others wanted ms was keep x y (Ok done) =
-    MendsFrom is_up is_sound holds kept_of block table records others wanted ms was keep x y
+    → Mend → List Mending → S → S → Talk → Talk → Report → Result (Unit {0}) Failure → Type 0
+EndsMend is_up is_sound holds kept_of block table records others wanted ms was keep x y report
+    (Ok done) =
+    MendsFrom is_up is_sound holds kept_of block table records others wanted ms was keep x y report
     (Ok done)
-EndsMend is_up is_sound holds kept_of block table records others wanted ms was keep x y
+EndsMend is_up is_sound holds kept_of block table records others wanted ms was keep x y report
     (Err failure) =
-    MendsFrom is_up is_sound holds kept_of block table records others wanted ms was keep x y
+    MendsFrom is_up is_sound holds kept_of block table records others wanted ms was keep x y report
     (Err failure)
-    ⊎ FromCut is_up is_sound holds kept_of block table records others wanted failure keep x y
+    ⊎ (FromCut is_up is_sound holds kept_of block table records others wanted failure keep x y
+    × (report ≡ no_report))

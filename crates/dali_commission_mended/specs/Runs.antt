@@ -20,13 +20,14 @@ use Rattle.dali_commissioning.specs.Runs.{IsRead}
 use Rattle.dali_commission_said.specs.declared.failure.Failure.{Failure}
 use Rattle.dali_commission_said.specs.declared.failure.Failure.TheVariants.{AddressedBefore}
 use Rattle.dali_commission_said.specs.declared.progress.Aim.{Aim}
-use Rattle.dali_commission_said.specs.declared.said.Said.{Said}
+use Rattle.dali_commission_said.specs.declared.report.Report.{Report}
 use Rattle.dali_commission_tasks.specs.declared.tasks.Start.{Start}
 use Rattle.dali_commission_tasks.specs.declared.tasks.Start.TheVariants as start
 use Rattle.dali_commission_asked.specs.Ending.{HasAskedAtLast, pass_at_last}
 use Rattle.dali_commission_asked.specs.declared.ending.AtLast.{AtLast}
 use Rattle.dali_commission_said.specs.Failures.{ended_as, failure_of}
-use Rattle.dali_commission_said.specs.Reports.{addressed_said, RunSaid}
+use Rattle.dali_commission_said.specs.Reports.{addressed_said, RunSaid, no_report, places_reported}
+use Rattle.dali_commission_said.specs.Reports.{run_reported}
 use Rattle.dali_commission_asked.specs.Sharing.{left_open}
 
 -- HOW A RUN BEGINS: with a census, and then machines that start, or with machines that survey
@@ -79,39 +80,41 @@ HasNotBegunSo is_up is_sound holds block others reason was keep x y start.Survey
 -- one answers. It does not end well if none does, or if something is still heard where the last
 -- survey left gear alone.
 abbrev pub EndsSo : {S : Type 0} (is_up is_sound : S → Type 0) (holds : S → List Record → Type 0)
-    → Block → PassEnd → Kept → Aim → S → S → Talk → Talk → List Said → Result (Unit {0}) Failure
+    → Block → PassEnd → Kept → Aim → S → S → Talk → Talk → ℕ → Report → Result (Unit {0}) Failure
     → Type 0
-EndsSo is_up is_sound holds block pass before aim was keep x y lines ended =
+EndsSo is_up is_sound holds block pass before aim was keep x y frames report ended =
     (after : Kept)
     × (last : AtLast)
-    × (frames : ℕ)
     × IsRead is_up is_sound holds block was keep after
     × HasAskedAtLast pass after.enrolled last x y
     × (ended ≡ left_open (ended_as (pass_at_last pass last).ended last.is_there) last.left)
-    × RunSaid (pass_at_last pass last) before after aim frames lines
+    × RunSaid (pass_at_last pass last) before after aim frames report.said.items
+    × (report ≡ run_reported (pass_at_last pass last) before after report.said.items)
 
--- WHAT A RUN COMES TO that began so: gear that no record names are said, and nothing else is done
--- beside them; else it ends as its last machine, or is cut short at last; or it did not begin
-abbrev pub IsStopped : Result (Unit {0}) Failure → Talk → Talk → Type 0
-IsStopped ended x y =
+-- WHAT A RUN COMES TO that began so, after so many frames: gear that no record names are said, and
+-- nothing else is done beside them; else it ends as its last machine, or is cut short at last; or
+-- it did not begin. Nothing is reported of one that is cut short.
+abbrev pub IsStopped : ℕ → Report → Result (Unit {0}) Failure → Talk → Talk → Type 0
+IsStopped frames report ended x y =
     (reason : CommissionFault)
-    × (line : ℕ)
-    × (ended ≡ Err (failure_of reason line))
+    × (ended ≡ Err (failure_of reason frames))
+    × (report ≡ no_report)
     × IsCutBeside reason x y
 
 abbrev pub ComesTo : {S : Type 0} (is_up is_sound : S → Type 0) (holds : S → List Record → Type 0)
-    → Block → Kept → List Block → Result Begun CommissionFault → S → S → Talk → Talk → List Said
+    → Block → Kept → List Block → Result Begun CommissionFault → S → S → Talk → Talk → ℕ → Report
     → Result (Unit {0}) Failure → Type 0
-ComesTo is_up is_sound holds block k others (Ok (begun.Addressed replies)) was keep x y lines
-    ended =
-    (lines ≡ addressed_said (places k others replies.items))
+ComesTo is_up is_sound holds block k others (Ok (begun.Addressed replies)) was keep x y frames
+    report ended =
+    (report ≡ places_reported (places k others replies.items)
+    (addressed_said (places k others replies.items)))
     × (ended ≡ Err AddressedBefore)
     × (keep ≡ was)
     × (y ≡ x)
-ComesTo is_up is_sound holds block k others (Ok (begun.Commissioned pass)) was keep x y lines
-    ended =
-    IsStopped ended x y
+ComesTo is_up is_sound holds block k others (Ok (begun.Commissioned pass)) was keep x y frames
+    report ended =
+    IsStopped frames report ended x y
     ⊎ ((aim : Aim)
-    × EndsSo is_up is_sound holds block pass k aim was keep x y lines ended)
-ComesTo is_up is_sound holds block k others (Err reason) was keep x y lines ended =
-    (line : ℕ) × (ended ≡ Err (failure_of reason line)) × (keep ≡ was) × (y ≡ x)
+    × EndsSo is_up is_sound holds block pass k aim was keep x y frames report ended)
+ComesTo is_up is_sound holds block k others (Err reason) was keep x y frames report ended =
+    (ended ≡ Err (failure_of reason frames)) × (report ≡ no_report) × (keep ≡ was) × (y ≡ x)

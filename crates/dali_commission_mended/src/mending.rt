@@ -1,18 +1,18 @@
 //! `mend`: gear that share a short address are told apart; then surveys enrol who has kept one, and serve who lost it.
 
 ghost use Rattle.std.specs.Prelude.{◌≡◌, ◌≤◌, ℕ, [], None, Err, IfOk, IfErr, OnOk, length};
-ghost use Rattle.dali_commission_asked.specs.Ending.{none_left};
+ghost use Rattle.dali_commission_asked.specs.Ending.{pass_at_last};
 ghost use Rattle.dali_mending.specs.Mending.{put_next, mending_begun};
 ghost use Rattle.dali_commissioning.specs.Drivers.{talk_of};
 ghost use Rattle.dali_commissioning.specs.Places.{places};
 ghost use Rattle.dali_commission_mended.specs.Mends.{HasPut, IsMended, AreMended, HasSurveyed, MendedSo, Follows};
 ghost use Rattle.dali_commission_mended.specs.Mends.{HasMendedSo, MendsBeside, MendsTo, MendsFrom, mended_as};
+ghost use Rattle.dali_commission_mended.specs.Mends.{mended_reported, unsurveyed_reported, refused_reported};
 ghost use Rattle.dali_commission_mended.specs.Hanging.{AreLookedFor};
 ghost use Rattle.dali_commission_mended.specs.Cut.{IsPutCut, AreMendsCut, AreSurveysCut, IsEndCut, FollowsCut};
 ghost use Rattle.dali_commission_mended.specs.Cut.{MendedCut, BesideCut, ToCut, FromCut, EndsMend};
 ghost use Rattle.dali_commission_asked.specs.Came.{IsCutAs};
 ghost use Rattle.dali_commission_asked.specs.Sharing.{with_left, why_open, is_any_left_shared, meant_from};
-ghost use Rattle.dali_commission_said.specs.Reports.{heard_of};
 ghost use Rattle.dali_commission_mended.specs.Tellings.{AreMendsTold, MendsOver, IsMendBeside, IsMendOf};
 
 use crate::hanging::{Hanging, look_for_all};
@@ -23,8 +23,8 @@ use dali_commission_asked::{
     or_open, refused_from, reserved_in, why_open, with_left,
 };
 use dali_commission_said::{
-    Aim, Came, Failure, Manner, MendRefusal, Progress, REFUSED, Report, Said, Voice, Which, add,
-    ended_as, failure_of, heard_of, or_say, own_rows, push_places, say,
+    Aim, Came, Failure, Manner, MendRefusal, Progress, REFUSED, Report, Said, Session, Voice,
+    Which, add, ended_as, failure_of, heard_of, or_say, own_rows, push_places, say,
 };
 use dali_commission_stores::{Borrower, Stores, kept, lend, read_all};
 use dali_commission_tasks::{Asked, Mend};
@@ -150,7 +150,8 @@ fn came_of(
     frames: u64,
 ) -> Came
     ensures ended { result.ended ≡ mended_as pass.now last.now work.now.replies.now work.now.mended.now }
-    ensures left { result.report.left_alone.items ≡ heard_of (with_left last.now.left.heard work.now.mended.now) }
+    ensures report { result.report ≡ mended_reported (pass_at_last pass.now last.now) before.now after.now
+        (with_left last.now.left.heard work.now.mended.now) result.report.said.items }
 {
     let (pass, heard) = (last.pass(pass), last.left.heard);
     Came {
@@ -170,7 +171,7 @@ fn came_of(
 fn came_unsurveyed(work: &Work<'_>, before: &Kept) -> Came
     ensures ended { result.ended
         ≡ Err (why_open (is_any_left_shared work.now.replies.now work.now.mended.now)) }
-    ensures left { result.report.left_alone.items ≡ heard_of (with_left none_left.heard work.now.mended.now) }
+    ensures report { result.report ≡ unsurveyed_reported before.now work.now.mended.now }
 {
     let mended = work.mended;
     let mut said = ArrayVec::new();
@@ -189,7 +190,8 @@ fn came_unsurveyed(work: &Work<'_>, before: &Kept) -> Came
 /// What a mend comes to that is refused, by what was heard of each short address.
 fn came_refused(site: &Site<'_>, replies: &[Reply], refusal: Failure) -> Came
     ensures ended { result.ended ≡ Err refusal }
-    ensures places { result.report.places.items ≡ places site.now.table.now site.now.others.now replies.now }
+    ensures report { result.report
+        ≡ refused_reported (places site.now.table.now site.now.others.now replies.now) }
 {
     let places = places(site.table, site.others, replies);
     let mut said = ArrayVec::new();
@@ -213,8 +215,8 @@ fn end_so<K: Keep, R: Read, W: Write>(
     work: &Work<'_>,
     pass: &PassEnd,
 ) -> Result<Came, Failure>
-    ensures ended { IfOk result (λ came. MendedSo pass.now (K.kept store.new) work.now.replies.now
-        work.now.mended.now came.ended
+    ensures ended { IfOk result (λ came. MendedSo pass.now site.now.before.now (K.kept store.new)
+        work.now.replies.now work.now.mended.now came.report came.ended
         (talk_of R.remaining W.contents driver.old) (talk_of R.remaining W.contents driver.new)) }
     ensures failed { IfErr result (λ failure. IsEndCut failure
         (talk_of R.remaining W.contents driver.old) (talk_of R.remaining W.contents driver.new)) }
@@ -238,9 +240,9 @@ fn follow<S: Voice, K: Keep, R: Read, W: Write>(
 ) -> Result<Came, Failure>
     ensures follows { IfOk result (λ came. Follows K.is_up K.is_sound K.holds K.kept (K.block store.old)
         site.now.table.now
-        work.now.hanging.now work.now.replies.now work.now.mended.now store.old store.new
+        work.now.hanging.now site.now.before.now work.now.replies.now work.now.mended.now store.old store.new
         (talk_of R.remaining W.contents driver.old)
-        (talk_of R.remaining W.contents driver.new) came.ended) }
+        (talk_of R.remaining W.contents driver.new) came.report came.ended) }
     ensures failed { IfErr result (λ failure. FollowsCut K.is_up K.is_sound K.holds K.kept (K.block store.old)
         site.now.table.now work.now.hanging.now work.now.replies.now work.now.mended.now failure store.new
         (talk_of R.remaining W.contents driver.old) (talk_of R.remaining W.contents driver.new)) }
@@ -291,8 +293,9 @@ fn mend_meant<S: Voice, K: Keep, R: Read, W: Write>(
     requires few { length replies.now ≤ 64 }
     requires none { mended.old.items ≡ [] }
     ensures mended { IfOk result (λ came. HasMendedSo K.is_up K.is_sound K.holds K.kept (K.block store.old)
-        site.now.table.now site.now.wanted.now hanging.now replies.now mended.new.items store.old store.new
-        (talk_of R.remaining W.contents driver.old) (talk_of R.remaining W.contents driver.new) came.ended) }
+        site.now.table.now site.now.wanted.now hanging.now site.now.before.now replies.now mended.new.items store.old
+        store.new (talk_of R.remaining W.contents driver.old) (talk_of R.remaining W.contents driver.new)
+        came.report came.ended) }
     ensures failed { IfErr result (λ failure. MendedCut K.is_up K.is_sound K.holds K.kept (K.block store.old)
         site.now.table.now site.now.wanted.now hanging.now replies.now failure store.new
         (talk_of R.remaining W.contents driver.old) (talk_of R.remaining W.contents driver.new)) }
@@ -320,8 +323,9 @@ fn mends_beside<S: Voice, K: Keep, R: Read, W: Write>(
     requires few { length replies.now ≤ 64 }
     requires none { mended.old.items ≡ [] }
     ensures mends { IfOk result (λ came. MendsBeside K.is_up K.is_sound K.holds K.kept (K.block store.old)
-        site.now.table.now site.now.others.now site.now.wanted.now hanging.now replies.now mended.new.items store.old
-        store.new (talk_of R.remaining W.contents driver.old) (talk_of R.remaining W.contents driver.new) came.ended) }
+        site.now.table.now site.now.others.now site.now.wanted.now hanging.now site.now.before.now replies.now
+        mended.new.items store.old store.new (talk_of R.remaining W.contents driver.old)
+        (talk_of R.remaining W.contents driver.new) came.report came.ended) }
     ensures failed { IfErr result (λ failure. BesideCut K.is_up K.is_sound K.holds K.kept (K.block store.old)
         site.now.table.now site.now.others.now site.now.wanted.now hanging.now replies.now failure store.new
         (talk_of R.remaining W.contents driver.old) (talk_of R.remaining W.contents driver.new)) }
@@ -346,7 +350,8 @@ fn mends_by<S: Voice, K: Keep, R: Read, W: Write>(
     ensures mends { IfOk result (λ came. MendsTo K.is_up K.is_sound K.holds K.kept (K.block store.old)
         site.now.table.now
         site.now.before.now site.now.others.now site.now.wanted.now replies.now mended.new.items store.old store.new
-        (talk_of R.remaining W.contents driver.old) (talk_of R.remaining W.contents driver.new) came.ended) }
+        (talk_of R.remaining W.contents driver.old) (talk_of R.remaining W.contents driver.new)
+        came.report came.ended) }
     ensures failed { IfErr result (λ failure. ToCut K.is_up K.is_sound K.holds K.kept (K.block store.old)
         site.now.table.now site.now.before.now site.now.others.now site.now.wanted.now replies.now failure store.new
         (talk_of R.remaining W.contents driver.old) (talk_of R.remaining W.contents driver.new)) }
@@ -367,7 +372,8 @@ fn came_to<S: Voice, K: Keep, R: Read, W: Write>(
     ensures mends { IfOk result (λ came. MendsFrom K.is_up K.is_sound K.holds K.kept (K.block store.old)
         site.now.table.now
         site.now.before.now site.now.others.now site.now.wanted.now mended.new.items store.old store.new
-        (talk_of R.remaining W.contents driver.old) (talk_of R.remaining W.contents driver.new) came.ended) }
+        (talk_of R.remaining W.contents driver.old) (talk_of R.remaining W.contents driver.new)
+        came.report came.ended) }
     ensures failed { IfErr result (λ failure. FromCut K.is_up K.is_sound K.holds K.kept (K.block store.old)
         site.now.table.now site.now.before.now site.now.others.now site.now.wanted.now failure store.new
         (talk_of R.remaining W.contents driver.old) (talk_of R.remaining W.contents driver.new)) }
@@ -396,7 +402,8 @@ fn came_to_or_not<S: Voice, K: Keep, R: Read, W: Write>(
     requires { mended.old.items ≡ [] }
     ensures { EndsMend K.is_up K.is_sound K.holds K.kept (K.block store.old) site.now.table.now
         site.now.before.now site.now.others.now site.now.wanted.now mended.new.items store.old store.new
-        (talk_of R.remaining W.contents driver.old) (talk_of R.remaining W.contents driver.new) result.ended }
+        (talk_of R.remaining W.contents driver.old) (talk_of R.remaining W.contents driver.new)
+        result.report result.ended }
 {
     match came_to(store, driver, progress, site, mended) {
         Ok(came) => came,
@@ -431,7 +438,6 @@ pub(crate) struct Mender<'a, S> {
     pub others: &'a [Block],
     /// The tables of the other files.
     pub tables: Vec<Kept>,
-    pub report: &'a mut Report,
 }
 
 impl<S: Voice + AllocGlobal> Mender<'_, S> {
@@ -439,12 +445,11 @@ impl<S: Voice + AllocGlobal> Mender<'_, S> {
     pub fn over<K: Keep, R: Read, W: Write>(
         self,
         store: &mut K,
-        driver: &mut DriverLink<R, W>,
+        session: &mut Session<R, W>,
     ) -> Result<(), Failure>
-        ensures { MendsOver K.is_up K.is_sound K.holds K.kept (K.block store.old)
+        ensures { MendsOver K.is_up K.is_sound K.holds K.kept (K.block store.old) R.remaining W.contents
             (S.told self.entry.system.now) self.entry.others.now self.entry.wanted.now self.entry.tables.items
-            store.old store.new
-            (talk_of R.remaining W.contents driver.old) (talk_of R.remaining W.contents driver.new) result }
+            store.old store.new session.old session.new result }
     {
         let (system, mut tables) = (self.system, self.tables);
         let before = kept(store)?;
@@ -461,25 +466,37 @@ impl<S: Voice + AllocGlobal> Mender<'_, S> {
         };
         let mut progress = Progress::new(system, self.manner, left_of(&before));
         let mut mended = Vec::new(system.alloc());
-        let came = came_to_or_not(store, driver, &mut progress, &site, &mut mended);
-        say_mended(system, &mended, &kept(store)?);
-        came.told(system, driver, self.report)
+        let came = came_to_or_not(
+            store,
+            &mut session.driver,
+            &mut progress,
+            &site,
+            &mut mended,
+        );
+        match kept(store) {
+            Ok(after) => {
+                say_mended(system, &mended, &after);
+                came.told(system, &session.driver, &mut session.report)
+            }
+            Err(failure) => session
+                .report
+                .note_lines(system, &session.driver, Err(failure)),
+        }
     }
 }
 
-impl<K: Keep, S: Voice + AllocGlobal, R: Read, W: Write> Borrower<K, DriverLink<R, W>>
+impl<K: Keep, S: Voice + AllocGlobal, R: Read, W: Write> Borrower<K, Session<R, W>>
     for Mender<'_, S> {
     type Out = ();
 
-    ghost use Rattle.dali_commissioning.specs.Drivers.{talk_of};
     ghost use Rattle.dali_commission_mended.specs.Tellings.{MendsOver};
 
     ghost came = { λ mender from to x y result. MendsOver K.is_up K.is_sound K.holds K.kept (K.block from)
-        (S.told mender.system.now) mender.others.now mender.wanted.now mender.tables.items from to
-        (talk_of R.remaining W.contents x) (talk_of R.remaining W.contents y) result };
+        R.remaining W.contents (S.told mender.system.now) mender.others.now mender.wanted.now mender.tables.items
+        from to x y result };
 
-    fn take(self, store: &mut K, driver: &mut DriverLink<R, W>) -> Result<(), Failure> {
-        self.over(store, driver)
+    fn take(self, store: &mut K, session: &mut Session<R, W>) -> Result<(), Failure> {
+        self.over(store, session)
     }
 }
 
@@ -488,13 +505,12 @@ impl<K: Keep, S: Voice + AllocGlobal, R: Read, W: Write> Borrower<K, DriverLink<
 fn mends_beside_others<S, F, R, W>(
     system: &S,
     stores: &mut F,
-    driver: &mut DriverLink<R, W>,
+    session: &mut Session<R, W>,
     manner: Manner,
     name: &str,
     more: &[String],
     others: &[Block],
     wanted: &Mend,
-    report: &mut Report,
 ) -> Result<(), Failure>
 where
     S: Voice + AllocGlobal,
@@ -503,7 +519,7 @@ where
     W: Write,
     ensures { IsMendBeside F.Open.is_up F.Open.is_sound F.Open.holds F.Open.kept F.Open.block F.saw F.opens R.remaining
         W.contents (S.told system.now) others.now wanted.now stores.old name.now more.now
-        driver.old driver.new result }
+        session.old session.new result }
 {
     let mut tables = Vec::new(system.alloc());
     read_all(system, stores, more, &mut tables)?;
@@ -516,9 +532,8 @@ where
         wanted,
         others,
         tables,
-        report,
     };
-    let done = lend(system.alloc(), stores, name, wanted.block, mender, driver);
+    let done = lend(system.alloc(), stores, name, wanted.block, mender, session);
     or_say(system, name, done)
 }
 
@@ -526,11 +541,10 @@ where
 pub fn mends<S, F, R, W>(
     system: &S,
     stores: &mut F,
-    driver: &mut DriverLink<R, W>,
+    session: &mut Session<R, W>,
     manner: Manner,
     asked: &Asked,
     wanted: &Mend,
-    report: &mut Report,
 ) -> Result<(), Failure>
 where
     S: Voice + AllocGlobal,
@@ -538,14 +552,12 @@ where
     R: Read,
     W: Write,
     ensures { IsMendOf F.Open.is_up F.Open.is_sound F.Open.holds F.Open.kept F.Open.block F.saw F.opens R.remaining
-        W.contents (S.told system.now) asked.now.others.items wanted.now stores.old driver.old driver.new result
+        W.contents (S.told system.now) asked.now.others.items wanted.now stores.old session.old session.new result
         asked.now.records.items }
 {
     let [name, more @ ..] = asked.records.as_slice() else {
         return Err(REFUSED);
     };
     let others = asked.others.as_slice();
-    mends_beside_others(
-        system, stores, driver, manner, name, more, others, wanted, report,
-    )
+    mends_beside_others(system, stores, session, manner, name, more, others, wanted)
 }

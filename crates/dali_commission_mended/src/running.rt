@@ -1,20 +1,20 @@
 //! `run`: gear are given short addresses.
 
-ghost use Rattle.std.specs.Prelude.{◌≡◌, ◌↔◌, ◌+◌, ◌-◌, ℕ, Err, IfOk, IfErr, IsTrue, length};
-ghost use Rattle.dali_commissioning.specs.Drivers.{talk_of, IsCutBeside};
+ghost use Rattle.std.specs.Prelude.{◌≡◌, ◌↔◌, ◌+◌, ◌-◌, Err, IfOk, IfErr, IsTrue, length};
+ghost use Rattle.dali_commissioning.specs.Drivers.{talk_of, lines_of, IsCutBeside};
 ghost use Rattle.dali_commission_said.specs.declared.failure.Failure.TheVariants.{Shared};
 ghost use Rattle.dali_commissioning.specs.declared.fault.CommissionFault.{CommissionFault};
 ghost use Rattle.dali_commission_said.specs.Failures.{ended_as, failure_of};
 ghost use Rattle.dali_commission_asked.specs.Ending.{pass_at_last};
 ghost use Rattle.dali_commission_asked.specs.Sharing.{left_open};
 ghost use Rattle.dali_commission_mended.specs.Runs.{HasBegun, HasNotBegun, HasNotBegunSo, EndsSo, ComesTo};
-ghost use Rattle.dali_commission_said.specs.Reports.{RunSaid};
+ghost use Rattle.dali_commission_said.specs.Reports.{RunSaid, run_reported};
 ghost use Rattle.dali_commission_mended.specs.Tellings.{HasRun, HasMendedAll};
 
 use crate::mending::Mender;
 use dali_commission_asked::{AtLast, ask_at_last};
 use dali_commission_said::{
-    Aim, Came, Failure, Manner, Progress, Report, Said, Voice, ended_as, failure_of,
+    Aim, Came, Failure, Manner, Progress, Report, Said, Session, Voice, ended_as, failure_of,
 };
 use dali_commission_stores::{Borrower, kept};
 use dali_commission_tasks::{Mend, Setup, Start};
@@ -78,6 +78,8 @@ fn came_of(
     ensures ended { result.ended
         ≡ left_open (ended_as (pass_at_last pass.now last.now).ended last.now.is_there) last.now.left }
     ensures said { RunSaid (pass_at_last pass.now last.now) before.now after.now aim frames result.report.said.items }
+    ensures reports { result.report
+        ≡ run_reported (pass_at_last pass.now last.now) before.now after.now result.report.said.items }
 {
     let pass = last.pass(pass);
     Came {
@@ -95,12 +97,13 @@ fn ended_so<K: Keep, R: Read, W: Write>(
     aim: Aim,
 ) -> Result<Came, Failure>
     ensures block { K.block store.new ≡ K.block store.old }
-    ensures stops { IfErr result (λ failure. (fault : CommissionFault) × (line : ℕ) × (failure ≡ failure_of fault line)
+    ensures stops { IfErr result (λ failure. (fault : CommissionFault)
+        × (failure ≡ failure_of fault (lines_of driver.new))
         × IsCutBeside fault (talk_of R.remaining W.contents driver.old)
         (talk_of R.remaining W.contents driver.new)) }
     ensures ends { IfOk result (λ came. EndsSo K.is_up K.is_sound K.holds (K.block store.old) pass.now before.now aim
         store.old store.new (talk_of R.remaining W.contents driver.old) (talk_of R.remaining W.contents driver.new)
-        came.report.said.items came.ended) }
+        (lines_of driver.new) came.report came.ended) }
 {
     let after = match store.read() {
         Ok(after) => after,
@@ -128,8 +131,8 @@ fn came_to<K: Keep, R: Read, W: Write>(
     ensures block { K.block store.new ≡ K.block store.old }
     ensures comes { ComesTo K.is_up K.is_sound K.holds (K.block store.old) before.now others.now begun store.old
         store.new
-        (talk_of R.remaining W.contents driver.old) (talk_of R.remaining W.contents driver.new)
-        result.report.said.items result.ended }
+        (talk_of R.remaining W.contents driver.old) (talk_of R.remaining W.contents driver.new) (lines_of driver.new)
+        result.report result.ended }
 {
     match begun {
         Ok(Begun::Addressed(replies)) => Came {
@@ -161,42 +164,41 @@ pub struct Running<'a, S> {
     pub setup: &'a Setup,
     pub others: &'a [Block],
     pub manner: Manner,
-    pub report: &'a mut Report,
 }
 
 impl<S: Voice + AllocGlobal> Running<'_, S> {
-    /// Runs, says what that came to, and hands on how it ended.
+    /// Runs, says and reports what that came to, and hands on how it ended.
     fn runs<K: Keep, R: Read, W: Write>(
-        &mut self,
+        &self,
         store: &mut K,
-        driver: &mut DriverLink<R, W>,
+        session: &mut Session<R, W>,
         before: &Kept,
     ) -> Result<(), Failure>
-        ensures ran { HasRun K.is_up K.is_sound K.holds (K.block store.old) (S.told self.old.system.now)
-            self.old.others.now self.old.setup.now before.now store.old store.new
-            (talk_of R.remaining W.contents driver.old) (talk_of R.remaining W.contents driver.new) result }
-        ensures same { self.new ≡ record self.old { report = self.new.report } }
+        ensures ran { HasRun K.is_up K.is_sound K.holds (K.block store.old) R.remaining W.contents
+            (S.told self.now.system.now) self.now.others.now self.now.setup.now before.now store.old store.new
+            session.old session.new result }
         ensures block { K.block store.new ≡ K.block store.old }
     {
         let (system, others) = (self.system, self.others);
+        let driver = &mut session.driver;
         let mut progress = Progress::new(system, self.manner, left_of(before));
         progress.begin(&Said::AsksAddresses);
         let begun = begun(store, driver, &mut progress, self.setup, others);
         progress.end();
         let aim = progress.aim();
         let came = came_to(store, driver, aim, before, others, begun);
-        came.told(system, driver, self.report)
+        came.told(system, &session.driver, &mut session.report)
     }
 
-    /// Mends the short addresses that gear share, once the run has ended.
+    /// Mends the short addresses that gear share, once the run has ended, and counts the gear of both.
     fn mends<K: Keep, R: Read, W: Write>(
-        self,
+        &self,
         store: &mut K,
-        driver: &mut DriverLink<R, W>,
+        session: &mut Session<R, W>,
     ) -> Result<(), Failure>
-        ensures { HasMendedAll K.is_up K.is_sound K.holds K.kept (K.block store.old)
-            (S.told self.entry.system.now) self.entry.others.now self.entry.setup.now.block store.old store.new
-            (talk_of R.remaining W.contents driver.old) (talk_of R.remaining W.contents driver.new) result }
+        ensures { HasMendedAll K.is_up K.is_sound K.holds K.kept (K.block store.old) R.remaining W.contents
+            (S.told self.now.system.now) self.now.others.now self.now.setup.now.block store.old store.new
+            session.old session.new result }
     {
         let alloc = self.system.alloc();
         let wanted = Mend {
@@ -204,37 +206,35 @@ impl<S: Voice + AllocGlobal> Running<'_, S> {
             missing: Vec::new(alloc),
             block: self.setup.block,
         };
-        let enrolled = self.report.enrolled;
         let mender = Mender {
             system: self.system,
             manner: self.manner,
             wanted: &wanted,
             others: self.others,
             tables: Vec::new(alloc),
-            report: &mut *self.report,
         };
-        let ended = mender.over(store, driver);
-        self.report.enrolled = self.report.enrolled.saturating_add(enrolled);
+        let enrolled = session.report.enrolled;
+        session.report.enrolled = 0;
+        let ended = mender.over(store, session);
+        session.report.enrolled = session.report.enrolled.saturating_add(enrolled);
         ended
     }
 }
 
-impl<K: Keep, S: Voice + AllocGlobal, R: Read, W: Write> Borrower<K, DriverLink<R, W>>
+impl<K: Keep, S: Voice + AllocGlobal, R: Read, W: Write> Borrower<K, Session<R, W>>
     for Running<'_, S> {
     type Out = ();
 
-    ghost use Rattle.dali_commissioning.specs.Drivers.{talk_of};
     ghost use Rattle.dali_commission_mended.specs.Tellings.{HasRunOver};
 
     ghost came = { λ running from to x y result. HasRunOver K.is_up K.is_sound K.holds K.kept (K.block from)
-        (S.told running.system.now) running.others.now running.setup.now from to
-        (talk_of R.remaining W.contents x) (talk_of R.remaining W.contents y) result };
+        R.remaining W.contents (S.told running.system.now) running.others.now running.setup.now from to x y result };
 
-    fn take(mut self, store: &mut K, driver: &mut DriverLink<R, W>) -> Result<(), Failure> {
+    fn take(self, store: &mut K, session: &mut Session<R, W>) -> Result<(), Failure> {
         let before = kept(store)?;
-        let ended = self.runs(store, driver, &before);
+        let ended = self.runs(store, session, &before);
         if self.setup.mends && has_shared(&ended) {
-            self.mends(store, driver)
+            self.mends(store, session)
         } else {
             ended
         }

@@ -1,8 +1,8 @@
 use Rattle.std.proofs.Common.{◌≡◌, ℕ, List, [], ◌∷◌, Bool, true, false, Option, Result, Ok, Err, inl, inr}
 use Rattle.std.{proofs.lemmas.Bool.false≢true, specs.Prelude.if◌then◌else◌, specs.declared.alloc.Global.Global, specs.declared.string.String.String}
 use Rattle.dali_script.specs.{Records.without_records, declared.orders.Input.Input}
-use Rattle.dali_commissioning.specs.{Drivers.Talk, declared.census.Reply.Reply, declared.verdict.Place.Place}
-use Rattle.dali_commission_said.specs.declared.{failure.Failure.Failure, said.Said.Said}
+use Rattle.dali_commissioning.specs.{Drivers.Talk, declared.census.Reply.Reply}
+use Rattle.dali_commission_said.specs.declared.{failure.Failure.Failure, report.Report.Report, said.Said.Said}
 use Rattle.dali_commission_stores.specs.Calls.{Call, Look}
 use Rattle.dali_commission_asked.specs.Frames.{AreFrames}
 use Rattle.dali_commission_cleared.specs.Clearing.{all_shorts, IsRound, AreCleared, ClearsTo, HasCleared}
@@ -33,14 +33,15 @@ not_any : (any : Bool) (failure : Failure) (r : Result (Unit {0}) Failure) → a
 not_any true failure r is well = ok_err failure well
 not_any false failure r is well = false≢true is
 
-cleared_more : (lines : List Said) (stand : List Place) (x y : Talk) → ClearsTo (Ok (tt {0})) lines stand x y → IsMore x y
-cleared_more lines stand x y (replies, found, at, are, inl (any, same), is, stands, says) = absurd (not_any _ _ _ any is)
-cleared_more lines stand x y (replies, found, at, are, inr (none, left), is, stands, says) =
+cleared_more : (came : Report) (x y : Talk) → ClearsTo came (Ok (tt {0})) x y → IsMore x y
+cleared_more came x y (replies, found, at, are, inl (any, same), is, reports) = absurd (not_any _ _ _ any is)
+cleared_more came x y (replies, found, at, are, inr (none, left), is, reports) =
     then_more (rounds (1 ∷ 2 ∷ 3 ∷ 4 ∷ []) [] replies x at are) (left_over_more _ _ found at y left)
 
 pub clear_more : {F : Type 0} (made : F → F → Call → Type 0) (saw : F → Look → Type 0) (told : Said → Type 0)
-    (records : List (String Global)) (was now : F) (x y : Talk) → HasCleared made saw told records was now x y (Ok (tt {0})) → IsMore x y
-clear_more made saw told records was now x y (inl (err, same)) = absurd (false≢true err)
-clear_more made saw told records was now x y (inr (mid, aside, new, inl (reason, line, so, cut))) = absurd (ok_err _ so)
-clear_more made saw told records was now x y (inr (mid, aside, new, inr (lines, stand, clears, said))) =
-    cleared_more lines stand x y clears
+    (records : List (String Global)) (was now : F) (x y : Talk) (frames : ℕ) (before report : Report)
+    → HasCleared made saw told records was now x y frames before report (Ok (tt {0})) → IsMore x y
+clear_more made saw told records was now x y frames before report (inl (err, same, kept)) = absurd (false≢true err)
+clear_more made saw told records was now x y frames before report (inr (mid, aside, new, inl (reason, so, reports, cut))) = absurd (ok_err _ so)
+clear_more made saw told records was now x y frames before report (inr (mid, aside, new, inr (came, clears, reports, said))) =
+    cleared_more came x y clears

@@ -2,7 +2,7 @@ use Rattle.std.proofs.Common.{◌≡◌, ◌∙◌, ℕ, List, [], ◌∷◌, Bo
 use Rattle.std.{proofs.lemmas.Bool.false≢true, specs.Prelude.IfOk}
 use Rattle.dali_script.specs.{Records.Kept, Records.without_records, declared.block.Block.Block}
 use Rattle.dali_commissioning.specs.{Drivers.Talk, declared.beginning.Checked.Checked, declared.fault.CommissionFault.CommissionFault}
-use Rattle.dali_commission_said.specs.declared.{failure.Failure.Failure, said.Said.Said}
+use Rattle.dali_commission_said.specs.declared.{failure.Failure.Failure, report.Report.Report, said.Said.Said}
 use Rattle.dali_commission_stores.specs.Calls.{Look}
 use Rattle.dali_commission_asked.specs.Came.{IsLitOnce, IsLitBy, IsLit, HasBlinked, HasShown, HasAskedAll, HasChecked, IsCheckOf, check_ended}
 use Rattle.dali_commission_program.proofs.Growing.{Grows, IsMore, stays, joined, more_then, then_more, grown, put_more}
@@ -44,14 +44,15 @@ checked_so : (beside : Kept → Type 0) (others : List Block) (heard : Bool) (li
 checked_so beside others heard line x y (Ok found) (is, asked) ended = asked_all_more others found x y asked
 checked_so beside others heard line x y (Err fault) none ended = absurd (ok_err _ ended)
 
-checked_more : (beside : Kept → Type 0) (told : Said → Type 0) (others : List Block) (heard : Bool) (line : ℕ) (x y : Talk)
-    (ended : Result (Unit {0}) Failure) → ended ≡ Ok (tt {0}) → HasChecked beside told others heard line x y ended → IsMore x y
-checked_more beside told others heard line x y ended well (found, is, so, said, cut) =
+checked_more : (beside : Kept → Type 0) (told : Said → Type 0) (others : List Block) (heard : Bool) (line : ℕ) (x y : Talk) (report : Report)
+    (ended : Result (Unit {0}) Failure) → ended ≡ Ok (tt {0}) → HasChecked beside told others heard line x y report ended → IsMore x y
+checked_more beside told others heard line x y report ended well (found, is, so, reports, said, cut) =
     checked_so beside others heard line x y found is (sym well ∙ so)
 
 pub check_more : {F : Type 0} (saw : F → Look → Type 0) (stores : F) (told : Said → Type 0) (others : List Block) (heard : Bool)
-    (line : ℕ) (x y : Talk) (first : Option (List ℕ))
-    → IsCheckOf saw stores told others heard line x y (Ok (tt {0})) first → IsMore x y
-check_more saw stores told others heard line x y None is = checked_more _ told others heard line x y (Ok (tt {0})) refl is
-check_more saw stores told others heard line x y (Some name) (inl (err, same)) = absurd (false≢true err)
-check_more saw stores told others heard line x y (Some name) (inr (done, is, so)) = checked_more _ told others heard line x y done so is
+    (line : ℕ) (x y : Talk) (before report : Report) (first : Option (List ℕ))
+    → IsCheckOf saw stores told others heard line x y before report (Ok (tt {0})) first → IsMore x y
+check_more saw stores told others heard line x y before report None is = checked_more _ told others heard line x y report (Ok (tt {0})) refl is
+check_more saw stores told others heard line x y before report (Some name) (inl (err, same, kept)) = absurd (false≢true err)
+check_more saw stores told others heard line x y before report (Some name) (inr (done, is, so)) =
+    checked_more _ told others heard line x y report done so is

@@ -10,6 +10,7 @@ use Rattle.dali_replacement.specs.declared.come.Come.{Come}
 use Rattle.dali_replacement.specs.declared.come.Come.TheVariants.{Nowhere}
 use Rattle.dali_replacement.specs.declared.refusal.ReplaceRefusal.{ReplaceRefusal}
 use Rattle.dali_commission_said.specs.declared.failure.Failure.TheVariants.{NotReplaced}
+use Rattle.dali_commission_said.specs.declared.report.Session.{Session}
 use Rattle.dali_commission_said.specs.declared.said.Said.{Said}
 use Rattle.dali_commission_stores.specs.Calls.{Call, Look}
 use Rattle.dali_commission_stores.specs.declared.records.Seen.{Seen}
@@ -33,10 +34,10 @@ abbrev pub PutsSomething : {F K R W : Type 0} (is_up is_sound : K → Type 0)
     → Type 0
 PutsSomething {F = F} {R = R} {W = W} is_up is_sound holds kept_of block_of made saw opens remaining
     contents told wrote task =
-    (records : List (String Global)) (others : List Block) (was now : F) (x y : DriverLink R W)
+    (records : List (String Global)) (others : List Block) (was now : F) (x y : Session R W)
     → HasDone is_up is_sound holds kept_of block_of made saw opens remaining contents told wrote
     records others was now x y (Ok (tt {0})) task
-    → IsNothingPut (talk_of remaining contents x) (talk_of remaining contents y) → ⊥
+    → IsNothingPut (talk_of remaining contents x.driver) (talk_of remaining contents y.driver) → ⊥
 
 -- A REPLACEMENT THAT IS REFUSED because the others are not all there HAS PUT SOMETHING
 abbrev pub RefusedPutsSomething : Type 0
@@ -70,10 +71,10 @@ abbrev pub PutsOrLooks : {F K R W : Type 0} (is_up is_sound : K → Type 0)
     → Replacement → Type 0
 PutsOrLooks {F = F} {R = R} {W = W} is_up is_sound holds kept_of block_of made saw opens remaining
     contents told wrote wanted =
-    (records : List (String Global)) (others : List Block) (was now : F) (x y : DriverLink R W)
+    (records : List (String Global)) (others : List Block) (was now : F) (x y : Session R W)
     → HasDone is_up is_sound holds kept_of block_of made saw opens remaining contents told wrote
     records others was now x y (Ok (tt {0})) (task.Replace wanted)
-    → IsNothingPut (talk_of remaining contents x) (talk_of remaining contents y)
+    → IsNothingPut (talk_of remaining contents x.driver) (talk_of remaining contents y.driver)
     → (random : ℕ)
     × HasLookedIn is_up is_sound holds kept_of block_of made saw opens remaining contents told
-    wanted random x y
+    wanted random x.driver y.driver

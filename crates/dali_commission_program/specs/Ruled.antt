@@ -9,11 +9,11 @@ use Rattle.dali_statement.specs.Own.{Own, Act, IsProgram, Follows, rest_all_allo
 use Rattle.dali_statement.specs.Page.{IsPlan, KeepsPromise, Moment, Plan, start}
 use Rattle.dali_commissioning.specs.Acts.{sender_of}
 use Rattle.dali_commissioning.specs.Done.{AreDone}
-use Rattle.dali_commissioning.specs.declared.driver.DriverLink.{DriverLink}
 use Rattle.dali_commissioning.specs.Drivers.{Talk, talk_of}
 use Rattle.dali_commissioning.specs.Rules.{AsksByRules, PutsByRules, LeavesByRules}
 use Rattle.dali_commissioning.specs.Runs.{IsRead}
 use Rattle.dali_commissioning.specs.declared.fault.CommissionFault.{CommissionFault}
+use Rattle.dali_commission_said.specs.declared.report.Session.{Session}
 use Rattle.dali_commission_said.specs.declared.said.Said.{Said}
 use Rattle.dali_commission_stores.specs.Calls.{Call, Look}
 use Rattle.dali_commission_stores.specs.declared.records.Seen.{Seen}
@@ -98,7 +98,7 @@ abbrev pub PutsSo : {F K R W : Type 0} (is_up is_sound : K → Type 0)
     → (F → List (String Global) → Talk → Talk → Type 0) → Type 0
 PutsSo {F = F} {R = R} {W = W} is_up is_sound holds kept_of block_of made saw opens remaining
     contents told wrote task so =
-    (records : List (String Global)) (others : List Block) (was now : F) (x y : DriverLink R W)
+    (records : List (String Global)) (others : List Block) (was now : F) (x y : Session R W)
     → HasDone is_up is_sound holds kept_of block_of made saw opens remaining contents told wrote
     records others was now x y (Ok (tt {0})) task
-    → so was records (talk_of remaining contents x) (talk_of remaining contents y)
+    → so was records (talk_of remaining contents x.driver) (talk_of remaining contents y.driver)

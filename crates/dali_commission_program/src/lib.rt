@@ -6,7 +6,7 @@ mod object;
 mod program;
 mod writing;
 
-pub use dali_commission_said::{Failure, StoreFault};
+pub use dali_commission_said::{Failure, Session, StoreFault};
 pub use dali_commission_stores::{Actor, Holder, Seen, Stores};
 pub use dali_commissioning::DriverLink;
 pub use program::run_and_say;

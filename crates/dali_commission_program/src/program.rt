@@ -15,11 +15,10 @@ use dali_commission_asked::{checks, identify};
 use dali_commission_cleared::clears;
 use dali_commission_mended::{Running, mends};
 use dali_commission_replaced::{note_first, replaces};
-use dali_commission_said::{Failure, Manner, Report, Voice, say, why_said};
+use dali_commission_said::{Failure, Manner, Report, Session, Voice, say, why_said};
 use dali_commission_stores::{Reading, Stores, lend, lend_copy};
 use dali_commission_tasks::{Asked, TableForm, Task};
 use dali_commission_words::{PROGRAM, asked_of};
-use dali_commissioning::DriverLink;
 use dali_console::ConsoleFault;
 use dali_words::{CommandLine, LineFault, Shows, asked};
 use std::alloc::Global;
@@ -40,14 +39,13 @@ fn writes_table<S: Writes + AllocGlobal, F: Stores>(
     system.write(&Text::of_table(system.alloc(), form, &kept)?)
 }
 
-/// Does what the words of the command line ask for, and notes what it came to.
+/// Does what the words of the command line ask for, and reports what it came to.
 fn does<S, F, R, W>(
     system: &S,
     stores: &mut F,
-    driver: &mut DriverLink<R, W>,
+    session: &mut Session<R, W>,
     manner: Manner,
     asked: &Asked,
-    report: &mut Report,
 ) -> Result<(), Failure>
 where
     S: Voice + Writes + AllocGlobal + Clock,
@@ -58,7 +56,7 @@ where
         R.remaining
         W.contents (S.told system.now) (S.wrote system.now) asked.now.records.items asked.now.others.items stores.old
         stores.new
-        driver.old driver.new result asked.now.task }
+        session.old session.new result asked.now.task }
 {
     let (alloc, others) = (system.alloc(), asked.others.as_slice());
     let name = first(&asked.records);
@@ -69,7 +67,6 @@ where
                 setup,
                 others,
                 manner,
-                report,
             };
             lend(
                 alloc,
@@ -77,31 +74,38 @@ where
                 only(&asked.records),
                 setup.block,
                 running,
-                driver,
+                session,
             )
         }
-        Task::Check => checks(system, stores, driver, name, others, report),
-        Task::Identify(short) => identify(system, driver, *short, report),
+        Task::Check => checks(system, stores, session, name, others),
+        Task::Identify(short) => identify(system, &mut session.driver, *short, &mut session.report),
         Task::Table(form) => writes_table(system, stores, only(&asked.records), *form),
         Task::Replace(wanted) => {
             match replaces(
                 system,
                 stores,
-                driver,
+                &mut session.driver,
                 manner,
                 &asked.records,
                 wanted,
-                report,
+                &mut session.report,
             ) {
                 Ok(_heard) => {
-                    note_first(alloc, stores, name, report);
+                    note_first(alloc, stores, name, &mut session.report);
                     Ok(())
                 }
                 Err(failure) => Err(failure),
             }
         }
-        Task::Mend(wanted) => mends(system, stores, driver, manner, asked, wanted, report),
-        Task::Clear => clears(system, stores, driver, manner, &asked.records, report),
+        Task::Mend(wanted) => mends(system, stores, session, manner, asked, wanted),
+        Task::Clear => clears(
+            system,
+            stores,
+            &mut session.driver,
+            manner,
+            &asked.records,
+            &mut session.report,
+        ),
     }
 }
 
@@ -180,7 +184,7 @@ fn or_refused(ended: Result<(), Failure>, written: Result<(), Failure>) -> Resul
 fn does_and_tells<S, F, R, W>(
     system: &S,
     stores: &mut F,
-    driver: &mut DriverLink<R, W>,
+    session: &mut Session<R, W>,
     is_terminal: bool,
     asked: &Asked,
 ) -> Result<(), Failure>
@@ -192,13 +196,13 @@ where
     ensures why { (name : Option (Bor (List ℕ))) × WhyTold (S.told system.now) result name }
     ensures done { HasAnswered F.Open.is_up F.Open.is_sound F.Open.holds F.Open.kept F.Open.block F.made F.saw F.opens
         R.remaining
-        W.contents (S.told system.now) (S.wrote system.now) asked.now stores.old stores.new driver.old driver.new
+        W.contents (S.told system.now) (S.wrote system.now) asked.now stores.old stores.new session.old session.new
         result }
 {
-    let mut report = Report::new();
+    session.report = Report::new();
     let manner = Manner::of(asked.is_quiet, is_terminal);
-    let done = does(system, stores, driver, manner, asked, &mut report);
-    let written = writes(system, asked, &report, &done);
+    let done = does(system, stores, session, manner, asked);
+    let written = writes(system, asked, &session.report, &done);
     ended(system, or_refused(done, written), refused_name(asked))
 }
 
@@ -236,12 +240,12 @@ where
     asked(system, &PROGRAM, asked_by)
 }
 
-/// Does what the words of the command line ask for over a driver, and says on standard error why it ended before its
+/// Does what the words of the command line ask for in a session, and says on standard error why it ended before its
 /// end. Nothing else is put than what that asks for.
 pub fn run_and_say<S, F, R, W>(
     system: &S,
     stores: &mut F,
-    driver: &mut DriverLink<R, W>,
+    session: &mut Session<R, W>,
     is_terminal: bool,
 ) -> Result<(), Failure>
 where
@@ -252,15 +256,15 @@ where
     ensures why { (name : Option (Bor (List ℕ))) × WhyTold (S.told system.now) result name }
     ensures done { HasServed F.Open.is_up F.Open.is_sound F.Open.holds F.Open.kept F.Open.block F.made F.saw F.opens
         R.remaining
-        W.contents (S.told system.now) (S.wrote system.now) (S.shown system.now) stores.old stores.new driver.old
-        driver.new result }
+        W.contents (S.told system.now) (S.wrote system.now) (S.shown system.now) stores.old stores.new session.old
+        session.new result }
 {
     let found = match found(system) {
         Ok(found) => found,
         Err(fault) => return ended(system, Err(Failure::Console(fault)), None),
     };
     match found {
-        Some(asked) => does_and_tells(system, stores, driver, is_terminal, &asked),
+        Some(asked) => does_and_tells(system, stores, session, is_terminal, &asked),
         None => Ok(()),
     }
 }

@@ -3,9 +3,13 @@ use Rattle.std.specs.Prelude.{None, ◌==◌, length, count_by, ◌≡◌, ◌-�
 use Rattle.dali_controller.specs.declared.shorts.Shorts.{Shorts}
 use Rattle.dali_controller.specs.Shorts.{has_short}
 use Rattle.dali_script.specs.Records.{Kept, Assignment}
+use Rattle.dali_script.specs.declared.block.Block.{Block}
+use Rattle.dali_commissioning.specs.declared.beginning.Checked.{Checked}
 use Rattle.dali_commissioning.specs.declared.verdict.Place.{Place}
 use Rattle.dali_commissioning.specs.Places.{random_at, places}
 use Rattle.dali_commission_said.specs.Said.{is_wanted, places_said, heard_said, WhySaid}
+use Rattle.dali_commission_said.specs.Tables.{rows}
+use Rattle.dali_commission_said.specs.declared.report.Report.{Report}
 use Rattle.dali_commission_said.specs.declared.reports.Which.TheVariants as which
 use Rattle.dali_commission_said.specs.declared.said.Said.{Said}
 use Rattle.dali_commission_said.specs.declared.said.Said.TheVariants as said
@@ -25,6 +29,30 @@ abbrev pub own_rows : List Assignment → List Assignment → List (ℕ × ℕ �
 own_rows reserved [] = []
 own_rows reserved (p ∷ more) = own_row reserved p ∷ own_rows reserved more
 
+abbrev pub table_of : Kept → List (ℕ × ℕ × Bool)
+table_of k = own_rows k.reserved (rows k.enrolled)
+
+-- A REPORT of so many gear that were enrolled, this table, who was left alone, what stands where,
+-- whether gear have no short address, and what is said: no frame is counted yet
+abbrev pub reported : ℕ → List (ℕ × ℕ × Bool) → List ℕ → List Place → Option Bool → List Said
+    → Report
+reported enrolled table left_alone places has_unaddressed lines = record {
+  frames = 0;
+  enrolled = enrolled;
+  table = record { items = table };
+  left_alone = record { items = left_alone };
+  places = record { items = places };
+  has_unaddressed = has_unaddressed;
+  said = record { items = lines };
+}
+
+-- of a task that has not begun, and of gear that stand so
+abbrev pub no_report : Report
+no_report = reported 0 [] [] [] None []
+
+abbrev pub places_reported : List Place → List Said → Report
+places_reported places lines = reported 0 [] [] places None lines
+
 -- WHAT IS SAID OF A CHECK: each place at which there is something, gear without short address, and
 -- how many gear there are
 abbrev pub unaddressed_said : Bool → List Said
@@ -37,6 +65,12 @@ checked_said k places has_unaddressed =
     ++ (unaddressed_said has_unaddressed
     ++ said.Counted (length k.enrolled) (count_by (λ p. is_wanted which.Wrong p) places)
     (count_by (λ p. is_wanted which.Strange p) places) (length k.reserved) ∷ [])
+
+abbrev pub check_reported : Checked → List Block → Report
+check_reported found others =
+    reported 0 (table_of found.kept) [] (places found.kept others found.replies.items)
+    (Some found.has_unaddressed) (checked_said found.kept
+    (places found.kept others found.replies.items) found.has_unaddressed)
 
 -- of a run that was not begun: each place at which a gear answers that no record names
 abbrev pub addressed_said : List Place → List Said
@@ -62,3 +96,9 @@ RunSaid pass before after aim frames lines =
     × WhySaid (heard_said (heard_of pass.heard)) pass after aim so_far
     × (lines ≡ so_far ++ Commissioned (length after.enrolled - length before.enrolled)
     (length after.enrolled) frames ∷ [])
+
+-- and what is reported of it
+abbrev pub run_reported : PassEnd → Kept → Kept → List Said → Report
+run_reported pass before after lines =
+    reported (length after.enrolled - length before.enrolled) (table_of after) (heard_of pass.heard)
+    [] None lines

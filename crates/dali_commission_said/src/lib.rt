@@ -10,7 +10,7 @@ mod table;
 
 pub use failure::{Failure, MendRefusal, REFUSED, StoreFault, add, checked, ended_as, failure_of};
 pub use progress::{Aim, Manner, Progress};
-pub use report::{Came, Report, Row, ended_said, heard_of, own_rows};
+pub use report::{Came, Report, Row, Session, ended_said, heard_of, own_rows};
 pub use reports::{Which, push_places};
 pub use said::{Said, Voice, or_say, say, say_all, say_refused, why_said};
 pub use table::push_table;

@@ -4,7 +4,8 @@ ghost use Rattle.std.specs.Prelude.{◌≡◌, ◌++◌, ◌+◌, ◌≤◌, ◌
 ghost use Rattle.dali_commissioning.specs.Drivers.{lines_of};
 ghost use Rattle.dali_commissioning.specs.Places.{places};
 ghost use Rattle.dali_commission_said.specs.Reports.{RunSaid, own_row, own_rows, heard_if, heard_of, checked_said};
-ghost use Rattle.dali_commission_said.specs.Reports.{addressed_said};
+ghost use Rattle.dali_commission_said.specs.Reports.{addressed_said, no_report, check_reported, places_reported};
+ghost use Rattle.dali_commission_said.specs.Reports.{run_reported};
 ghost use Rattle.dali_commission_said.specs.Said.{WhySaid, heard_said, AreTold};
 ghost use Rattle.dali_commission_said.specs.Tables.{rows};
 
@@ -121,9 +122,7 @@ fn checked_said(kept: &Kept, places: &[Place], has_unaddressed: bool) -> Saying
 impl Report {
     /// Of a task that has not begun.
     pub fn new() -> Report
-        ensures { (result.table.items ≡ []) × (result.places.items ≡ []) × (result.said.items ≡ [])
-            × (result.left_alone.items ≡ []) × (result.has_unaddressed ≡ None)
-            × (result.frames ≡ 0) × (result.enrolled ≡ 0) }
+        ensures { result ≡ no_report }
     {
         Report {
             frames: 0,
@@ -138,11 +137,7 @@ impl Report {
 
     /// Of a check that found this.
     pub fn of_check(found: &Checked, others: &[Block]) -> Report
-        ensures places { result.places.items ≡ places found.now.kept others.now found.now.replies.items }
-        ensures unaddressed { result.has_unaddressed ≡ Some found.now.has_unaddressed }
-        ensures table { result.table.items ≡ own_rows found.now.kept.reserved (rows found.now.kept.enrolled) }
-        ensures said { result.said.items ≡ checked_said found.now.kept
-            (places found.now.kept others.now found.now.replies.items) found.now.has_unaddressed }
+        ensures { result ≡ check_reported found.now others.now }
     {
         let places = places(&found.kept, others, &found.replies);
         Report {
@@ -156,8 +151,8 @@ impl Report {
 
     /// Of a run that was not begun, since gear answer that no record names.
     pub fn of_strangers(kept: &Kept, others: &[Block], replies: &[Reply]) -> Report
-        ensures places { result.places.items ≡ places kept.now others.now replies.now }
-        ensures said { result.said.items ≡ addressed_said (places kept.now others.now replies.now) }
+        ensures { result ≡ places_reported (places kept.now others.now replies.now)
+            (addressed_said (places kept.now others.now replies.now)) }
     {
         let places = places(kept, others, replies);
         let mut said = ArrayVec::new();
@@ -173,8 +168,7 @@ impl Report {
     /// Of a run whose last machine ended so, from one table to another, after so many frames.
     pub fn of_run(pass: &PassEnd, before: &Kept, after: &Kept, aim: Aim, frames: u64) -> Report
         ensures said { RunSaid pass.now before.now after.now aim frames result.said.items }
-        ensures table { result.table.items ≡ own_rows after.now.reserved (rows after.now.enrolled) }
-        ensures left_alone { result.left_alone.items ≡ heard_of pass.now.heard }
+        ensures reports { result ≡ run_reported pass.now before.now after.now result.said.items }
     {
         let all = after.enrolled().len();
         let enrolled = all.saturating_sub(before.enrolled().len());
@@ -247,9 +241,7 @@ pub struct Came {
 impl Came {
     /// How it ended, and nothing else.
     pub fn bare(ended: Result<(), Failure>) -> Came
-        ensures ended { result.ended ≡ ended }
-        ensures said { result.report.said.items ≡ [] }
-        ensures places { result.report.places.items ≡ [] }
+        ensures { result ≡ record { report = no_report; ended = ended } }
     {
         Came {
             report: Report::new(),
@@ -265,17 +257,31 @@ impl Came {
         report: &mut Report,
     ) -> Result<(), Failure>
         ensures ended { result ≡ self.ended }
-        ensures frames { report.new.frames ≡ lines_of driver.now }
-        ensures table { report.new.table ≡ self.report.table }
-        ensures places { report.new.places ≡ self.report.places }
-        ensures left_alone { report.new.left_alone ≡ self.report.left_alone }
-        ensures unaddressed { report.new.has_unaddressed ≡ self.report.has_unaddressed }
-        ensures enrolled { report.new.enrolled ≡ self.report.enrolled }
+        ensures report { report.new ≡ record self.report { frames = lines_of driver.now } }
         ensures told { AreTold (S.told system.now) self.report.said.items }
     {
         say_all(system, &self.report.said);
         let ended = self.ended;
         *report = self.report;
         report.note_lines(system, driver, ended)
+    }
+}
+
+/// A driver, and what was reported of a task over it.
+#[derive(Drop)]
+pub struct Session<R, W> {
+    pub driver: DriverLink<R, W>,
+    pub report: Report,
+}
+
+impl<R, W> Session<R, W> {
+    /// Over this driver, before a task.
+    pub fn new(driver: DriverLink<R, W>) -> Session<R, W>
+        ensures { result ≡ record { driver = driver; report = no_report } }
+    {
+        Session {
+            driver,
+            report: Report::new(),
+        }
     }
 }

@@ -6,7 +6,10 @@ use Rattle.dali_script.specs.declared.block.Block.{Block}
 use Rattle.dali_script.specs.declared.records.Record.{Record}
 use Rattle.dali_script.specs.Records.{Kept}
 use Rattle.dali_commissioning.specs.Runs.{IsRead}
+use Rattle.dali_reserve.specs.declared.error.KeepError.{KeepError}
 use Rattle.dali_commission_said.specs.declared.failure.Failure.{Failure}
+use Rattle.dali_commission_said.specs.declared.failure.Failure.TheVariants.{Store}
+use Rattle.dali_commission_said.specs.declared.failure.StoreFault.TheVariants as store
 use Rattle.dali_commission_stores.specs.Calls.{Call, Opened, Closed, Look, Has, Read, Alone}
 use Rattle.dali_commission_stores.specs.declared.records.Seen.{Seen}
 use Rattle.dali_commission_stores.specs.Seen.{IsBeside, IsSeen}
@@ -43,6 +46,10 @@ IsCopied is_up is_sound holds block saw stores name copy =
     saw stores (Has name true)
     × ((journal : List ℕ) × IsBeside saw stores name journal × saw stores (Has journal false))
     × Copies is_up is_sound holds block saw stores name copy
+
+-- and records that are open cannot be read
+abbrev pub IsUnread : Failure → Type 0
+IsUnread failure = (e : KeepError) × (failure ≡ Store (store.Store e))
 
 -- RECORDS ARE READ, those of each name, behind others
 abbrev pub AreRead : {F : Type 0} → (F → Look → Type 0) → F → List (String Global) → List Kept

@@ -1,9 +1,9 @@
 //! The records of a name, as the tasks borrow them.
 
-ghost use Rattle.std.specs.Prelude.{◌≡◌, Ok, IfOk, OnOk, string_bytes};
+ghost use Rattle.std.specs.Prelude.{◌≡◌, Ok, IfOk, IfErr, OnOk, string_bytes};
 ghost use Rattle.dali_commissioning.specs.Runs.{IsRead};
 ghost use Rattle.dali_commission_stores.specs.Calls.{Read, AreMade};
-ghost use Rattle.dali_commission_stores.specs.Lent.{IsLent, IsOpened, IsCopied, AreRead, lent_calls};
+ghost use Rattle.dali_commission_stores.specs.Lent.{IsLent, IsOpened, IsCopied, IsUnread, AreRead, lent_calls};
 ghost use Rattle.dali_commission_said.specs.Failures.{answered};
 ghost use Rattle.dali_commission_stores.specs.Seen.{IsBeside, IsSeen};
 
@@ -165,6 +165,7 @@ pub fn kept<K: Keep>(store: &mut K) -> Result<Kept, Failure>
     ensures kept { IfOk result (λ kept. kept ≡ K.kept store.new) }
     ensures read { IfOk result (IsRead K.is_up K.is_sound K.holds (K.block store.old) store.old store.new) }
     ensures block { K.block store.new ≡ K.block store.old }
+    ensures failed { IfErr result IsUnread }
 {
     answered(store.read())
 }

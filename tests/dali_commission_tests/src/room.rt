@@ -1,7 +1,7 @@
 //! A system whose driver is a bus of gear in memory, and how the program is called on a system.
 
 use super::bus::{Bus, Put, Told};
-use dali_commission_program::{DriverLink, Failure, Stores, run_and_say};
+use dali_commission_program::{DriverLink, Failure, Session, Stores, run_and_say};
 use std::alloc::{Alloc, Allocator, Global};
 use std::cell::RefCell;
 use std::env::{Env, FillError};
@@ -16,8 +16,8 @@ where
     S: Env + Input + Print + Eprint + AllocGlobal + Clock,
     F: Stores,
 {
-    let mut driver = DriverLink::new(system.alloc(), system.reader(), io::writer(system));
-    run_and_say(system, stores, &mut driver, false)
+    let driver = DriverLink::new(system.alloc(), system.reader(), io::writer(system));
+    run_and_say(system, stores, &mut Session::new(driver), false)
 }
 
 /// A system with a command line and a bus, which keeps what is said. Its clock stands still.

@@ -10,24 +10,24 @@ use Rattle.dali_commission_program.proofs.laws.tasks_keep_the_rules_of_the_page.
 
 pub returns-clause-identify : goal.returns-clause-identify
 returns-clause-identify g c a short records others was now x y is =
-    shown a (talk_of g.R.Read.remaining g.W.Write.contents x) (talk_of g.R.Read.remaining g.W.Write.contents y) short is
+    shown a (talk_of g.R.Read.remaining g.W.Write.contents x.driver) (talk_of g.R.Read.remaining g.W.Write.contents y.driver) short is.0
 
 pub returns-clause-check : goal.returns-clause-check
 returns-clause-check g c records others was now x y checked =
-    check g.F.Stores.saw was (g.S.Voice.told c.args._system.now) others (has_heard y) (lines_of y)
-    (talk_of g.R.Read.remaining g.W.Write.contents x) (talk_of g.R.Read.remaining g.W.Write.contents y)
+    check g.F.Stores.saw was (g.S.Voice.told c.args._system.now) others (has_heard y.driver) (lines_of y.driver)
+    (talk_of g.R.Read.remaining g.W.Write.contents x.driver) (talk_of g.R.Read.remaining g.W.Write.contents y.driver) x.report y.report
     (option_map (λ it. string_bytes it) (slice_get records 0)) checked
 
 pub returns-clause-run : goal.returns-clause-run
 returns-clause-run g c setup none records others was now x y lent =
     run g.F.Open.Keep.is_up g.F.Open.Keep.is_sound g.F.Open.Keep.holds g.F.Open.Keep.kept g.F.Open.Keep.block
-    (IsOpened g.F.Open.Keep.block g.F.Stores.saw g.F.Stores.opens was (only records) setup.block) (g.S.Voice.told c.args._system.now) others setup
-    (λ d. talk_of g.R.Read.remaining g.W.Write.contents d) x y none lent
+    (IsOpened g.F.Open.Keep.block g.F.Stores.saw g.F.Stores.opens was (only records) setup.block) g.R.Read.remaining g.W.Write.contents
+    (g.S.Voice.told c.args._system.now) others setup x y none lent
 
 pub returns-clause-replace : goal.returns-clause-replace
 returns-clause-replace g c wanted short records others was now x y (random, replaces) =
     replaced g.F.Open.Keep.is_up g.F.Open.Keep.is_sound g.F.Open.Keep.holds g.F.Open.Keep.kept g.F.Open.Keep.block g.F.Stores.made g.F.Stores.saw
-    g.F.Stores.opens g.R.Read.remaining g.W.Write.contents (g.S.Voice.told c.args._system.now) wanted records random was now x y short replaces
+    g.F.Stores.opens g.R.Read.remaining g.W.Write.contents (g.S.Voice.told c.args._system.now) wanted records random was now x.driver y.driver short replaces
 
 pub returns-clause-survey_left : goal.returns-clause-survey_left
 returns-clause-survey_left g c = survey_left g.F.Open.Keep.is_up g.F.Open.Keep.is_sound g.F.Open.Keep.holds

@@ -8,27 +8,29 @@ use Rattle.dali_commission_program.proofs.laws.tasks_that_end_well_put_something
 
 pub returns-clause-identify : goal.returns-clause-identify
 returns-clause-identify g c a records others was now x y shown =
-    more_is_not_nothing _ _ (shown_more a (talk_of g.R.Read.remaining g.W.Write.contents x) (talk_of g.R.Read.remaining g.W.Write.contents y) shown)
+    more_is_not_nothing _ _
+    (shown_more a (talk_of g.R.Read.remaining g.W.Write.contents x.driver) (talk_of g.R.Read.remaining g.W.Write.contents y.driver) shown.0)
 
 pub returns-clause-check : goal.returns-clause-check
 returns-clause-check g c records others was now x y checked =
     more_is_not_nothing _ _
-    (check_more g.F.Stores.saw was (g.S.Voice.told c.args._system.now) others (has_heard y) (lines_of y)
-    (talk_of g.R.Read.remaining g.W.Write.contents x) (talk_of g.R.Read.remaining g.W.Write.contents y)
+    (check_more g.F.Stores.saw was (g.S.Voice.told c.args._system.now) others (has_heard y.driver) (lines_of y.driver)
+    (talk_of g.R.Read.remaining g.W.Write.contents x.driver) (talk_of g.R.Read.remaining g.W.Write.contents y.driver) x.report y.report
     (option_map (λ it. string_bytes it) (slice_get records 0)) checked)
 
 pub returns-clause-clear : goal.returns-clause-clear
 returns-clause-clear g c records others was now x y cleared =
     more_is_not_nothing _ _
     (clear_more g.F.Stores.made g.F.Stores.saw (g.S.Voice.told c.args._system.now) records was now
-    (talk_of g.R.Read.remaining g.W.Write.contents x) (talk_of g.R.Read.remaining g.W.Write.contents y) cleared)
+    (talk_of g.R.Read.remaining g.W.Write.contents x.driver) (talk_of g.R.Read.remaining g.W.Write.contents y.driver) (lines_of y.driver) x.report
+    y.report cleared)
 
 pub returns-clause-run : goal.returns-clause-run
 returns-clause-run g c setup records others was now x y lent =
     more_is_not_nothing _ _
-    (run_lent_more g.F.Open.Keep.is_up g.F.Open.Keep.is_sound g.F.Open.Keep.holds g.F.Open.Keep.kept g.F.Open.Keep.block
-    (IsOpened g.F.Open.Keep.block g.F.Stores.saw g.F.Stores.opens was (only records) setup.block) (g.S.Voice.told c.args._system.now) others setup
-    (λ d. talk_of g.R.Read.remaining g.W.Write.contents d) x y lent)
+    (run_lent_more g.F.Open.Keep.is_up g.F.Open.Keep.is_sound g.F.Open.Keep.holds g.F.Open.Keep.kept g.R.Read.remaining g.W.Write.contents
+    (g.S.Voice.told c.args._system.now) others setup g.F.Open.Keep.block
+    (IsOpened g.F.Open.Keep.block g.F.Stores.saw g.F.Stores.opens was (only records) setup.block) x y lent)
 
 pub returns-clause-mend : goal.returns-clause-mend
 returns-clause-mend g c wanted records others was now x y mended =
@@ -40,7 +42,8 @@ pub returns-clause-replace : goal.returns-clause-replace
 returns-clause-replace g c wanted records others was now x y (random, replaces) nothing = (
   random,
   replaced g.F.Open.Keep.is_up g.F.Open.Keep.is_sound g.F.Open.Keep.holds g.F.Open.Keep.kept g.F.Open.Keep.block g.F.Stores.made g.F.Stores.saw
-      g.F.Stores.opens g.R.Read.remaining g.W.Write.contents (g.S.Voice.told c.args._system.now) wanted records random was now x y replaces nothing,
+      g.F.Stores.opens g.R.Read.remaining g.W.Write.contents (g.S.Voice.told c.args._system.now) wanted records random was now x.driver
+      y.driver replaces nothing,
 )
 
 pub returns-clause-refused : goal.returns-clause-refused

@@ -8,7 +8,8 @@ pub returns-in-Run : goal.returns-in-Run
 returns-in-Run g c =
     run_done g.F.Open.Keep.is_up g.F.Open.Keep.is_sound g.F.Open.Keep.holds g.F.Open.Keep.kept g.F.Open.Keep.block g.F.Stores.made g.F.Stores.saw
     g.F.Stores.opens g.R.Read.remaining g.W.Write.contents (g.S.Voice.told c.args.system.now) (g.S.Writes.wrote c.args.system.now)
-    c.args.asked.now.records.items _ c.as_slice-others.result.now c.args.asked.now.others.items c.args.stores.now c.lend.new.stores _ _ c.lend.result
+    c.args.asked.now.records.items _ c.as_slice-others.result.now c.args.asked.now.others.items c.args.stores.now c.lend.new.stores
+    c.args.session.now c.lend.new.beside c.lend.result
     c.args.asked.now.task c.in-Run.setup c.in-Run.is
     (c.only.ensures ∙ ap only c.deref-in-Run.ensures.value) c.as_slice-others.ensures.value c.lend.ensures.lent
 
@@ -16,7 +17,8 @@ pub returns-in-Check : goal.returns-in-Check
 returns-in-Check g c =
     check_done g.F.Open.Keep.is_up g.F.Open.Keep.is_sound g.F.Open.Keep.holds g.F.Open.Keep.kept g.F.Open.Keep.block g.F.Stores.made g.F.Stores.saw
     g.F.Stores.opens g.R.Read.remaining g.W.Write.contents (g.S.Voice.told c.args.system.now) (g.S.Writes.wrote c.args.system.now)
-    c.args.asked.now.records.items _ c.as_slice-others.result.now c.args.asked.now.others.items c.args.stores.now c.args.stores.now _ _ c.checks.result
+    c.args.asked.now.records.items _ c.as_slice-others.result.now c.args.asked.now.others.items c.args.stores.now c.args.stores.now
+    c.args.session.now c.checks.new.session c.checks.result
     c.args.asked.now.task c.in-Check.is
     (c.first-name.ensures ∙ ap (λ rs. option_map (λ it. string_bytes it) (slice_get rs 0)) c.deref.ensures.value) c.as_slice-others.ensures.value
     c.checks.ensures

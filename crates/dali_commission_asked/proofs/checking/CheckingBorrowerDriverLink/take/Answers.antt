@@ -1,8 +1,0 @@
-use Rattle.dali_commission_asked.proofs.Checked.{has_checked}
-use Rattle.dali_commission_asked.proofs.checking.CheckingBorrowerDriverLink.take.Goals as goal
-
-pub returns : goal.returns
-returns g c =
-    has_checked _ _ _ _ _ _ _ _ _ _ _ _ c.checked_over-came.ensures.0 _ _ _ c.checked_over-came.ensures.1 c.checked_over-came.ensures.2
-    c.checked_over-came.ensures.3
-    c.told.ensures.told c.told.ensures.ended c.checked_over-came.ensures.5
