@@ -8,7 +8,7 @@ import re
 import typing
 import zlib
 
-from yolgibat import ROOT, buildings, commanding, places, serving, texts, working
+from yolgibat import ROOT, building, commanding, places, serving, texts
 
 PAGE = ROOT / "yolgibat/building.html"
 # The page of a bus below that of its building: its number, and what is asked for there.
@@ -20,7 +20,7 @@ COMMANDS, LANES = ("run", "check"), 8
 class Bus(commanding.Bus):
     """A bus of a building. A command has it alone while it goes on; between commands others may work on it, and what they found is read."""
 
-    def __init__(self, building: str, entry: buildings.Entry, program: str, number: int, way: "list[Bus]") -> None:
+    def __init__(self, building: str, entry: building.Entry, program: str, number: int, way: "list[Bus]") -> None:
         site, *more = entry.sites(program)
         super().__init__(site, (), more)
         self.read_table()
@@ -31,11 +31,11 @@ class Bus(commanding.Bus):
     def start(self, name: str, address: object, words: list[str] | None = None) -> commanding.Command:
         try:
             with contextlib.ExitStack() as held:
-                self.kept = (held.enter_context(working.alone(self.site.records[0])),)
+                self.kept = (held.enter_context(building.alone(self.site.records[0])),)
                 command = super().start(name, address, words)
                 self.holds = held.pop_all()
                 return command
-        except working.Taken as why:
+        except building.Taken as why:
             raise commanding.Busy(str(why)) from why
 
     def rest(self) -> None:
@@ -211,16 +211,16 @@ class Handler(serving.Handler):
         self.tell_all()
 
 
-def made(building: buildings.Building, program: str) -> list[Bus]:
+def made(whole: building.Building, program: str) -> list[Bus]:
     """The buses of a building, each with what is known of it."""
     way: list[Bus] = []
 
     def make(number: int) -> Bus:
-        bus = Bus(building.name, building.entries[number], program, number, way)
+        bus = Bus(whole.name, whole.entries[number], program, number, way)
         # So the page has not to wait for it.
         with contextlib.suppress(places.Unreadable):
             bus.luminaires()
         return bus
 
     with concurrent.futures.ThreadPoolExecutor(LANES) as lanes:
-        return list(lanes.map(make, range(len(building.entries))))
+        return list(lanes.map(make, range(len(whole.entries))))

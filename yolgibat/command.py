@@ -25,13 +25,15 @@ COMMISSION, SIMULATE, VIEW = "dali_commission", "dali_sim", "dali_view"
 # The options of a driver, and of files in which is told what was on the bus; each with a value. Other options that have a value which is no word
 # of the launcher, and those that say that places or serial numbers are meant.
 DRIVER, FILES, VALUES, BESIDE = ("--driver", "--driver-timeout"), ("--story", "--trace"), ("--records",), ("--names", "--all", "--serials")
-# The tasks of `dali_commission`: those that talk to a driver, and all that have a help.
+# The tasks of `dali_commission` that talk to a driver. The commands of each launcher that have a help, and its own; what `--build` builds.
 OVER_DRIVER = ("run", "check", "identify", "replace", "mend", "clear")
-TASKS = (*OVER_DRIVER, "table", "page", "building")
+COMMANDS = {COMMISSION: (*OVER_DRIVER, "table", "page", "building"), SIMULATE: ("replay", "threads", "audit", "view", "trace"), VIEW: ()}
+TEXTS = {COMMISSION: ("dali_commission-launcher",), SIMULATE: ("dali_sim", "dali_sim-launcher"), VIEW: ("dali_view",)}
+BUILDS = {COMMISSION: (COMMISSION,), SIMULATE: ("dali_play", SIMULATE), VIEW: ()}
 # What is done in the program's place: the tasks, each with the option that says so.
 IN_PLACE = (("table", "--names"), ("identify", "--all"), ("check", "--serials"))
-# The commands of `dali_sim` that have a help, and those that draw: what, and what it is called in a usage.
-SIMULATIONS, DRAWS = ("replay", "threads", "audit", "view", "trace"), {"view": ("page", "PAGE"), "trace": ("trace", "DUMP")}
+# The commands of `dali_sim` that draw: what, and what it is called in a usage.
+DRAWS = {"view": ("page", "PAGE"), "trace": ("trace", "DUMP")}
 OF_BUILDING = ("run", "check", "mend", "clear", "table", "replace", "page")
 # How many seconds a driver may be given for an answer.
 MOST = 86400
@@ -241,9 +243,25 @@ def show(*names: str) -> typing.NoReturn:
     become("cat", *(HELP / f"{it}.txt" for it in names))
 
 
-def refuse(*names: str) -> int:
-    """Says texts of the help, since no word was given."""
-    standard.say("".join((HELP / f"{it}.txt").read_text() for it in names), "")
+def answer(launcher: str, words: list[str]) -> None:
+    """Answers what needs no program: what a launcher takes, or one of its commands, and its version."""
+    texts, commands, built = TEXTS[launcher], COMMANDS[launcher], BUILDS[launcher]
+    if words == ["--build"] and built and programs.BUILD.exists():
+        become(programs.BUILD, *built)
+    if words in (["-h"], ["--help"]) or words == ["help"] and commands:
+        show(*texts)
+    if words in (["-V"], ["--version"]):
+        become("sed", "s/sim/view/" if launcher == VIEW else "", HELP / f"{SIMULATE if launcher == VIEW else launcher}-version.txt")
+    # Behind a command of `dali_commission` the help may be asked for at any place.
+    is_asked = not {"-h", "--help"}.isdisjoint(words[1:] if launcher == COMMISSION or len(words) == 2 else ())
+    asked = words[0] if is_asked else words[1] if words[:1] == ["help"] and len(words) == 2 else ""
+    if asked in commands:
+        show("dali_view" if asked == "view" else f"{launcher}-{asked}")
+
+
+def refuse(launcher: str) -> int:
+    """Says what a launcher takes."""
+    standard.say("".join((HELP / f"{it}.txt").read_text() for it in TEXTS[launcher]), "")
     return BAD_WORD
 
 
@@ -261,8 +279,7 @@ def call_of(words: list[str]) -> Call:
     """What these words ask for. A value is none of them, also of an option of the program that is a file of records."""
     task, at, is_driven, beside, left = "", None, False, "", iter(enumerate(words))
     for number, word in left:
-        name, is_tied, _ = word.partition("=")
-        is_own = name in (*DRIVER, *FILES)
+        is_own = word.partition("=")[0] in (*DRIVER, *FILES)
         if not is_own and word not in BESIDE and at is None:
             task, at = word, number
         is_driven, beside = is_driven or is_own, word if word in BESIDE else beside
@@ -273,18 +290,6 @@ def call_of(words: list[str]) -> Call:
 
 def commission(words: list[str]) -> int:
     """Gives the gear of a bus their short addresses, over a driver."""
-    if words == ["--build"] and programs.BUILD.exists():
-        become(programs.BUILD, COMMISSION)
-    if words in (["-h"], ["--help"], ["help"]):
-        show("dali_commission-launcher")
-    if len(words) == 2 and words[0] == "help" and words[1] in TASKS:
-        show(f"dali_commission-{words[1]}")
-    if words in (["-V"], ["--version"]):
-        show("dali_commission-version")
-    if not words:
-        return refuse("dali_commission-launcher")
-    if words[0] in TASKS and not {"-h", "--help"}.isdisjoint(words):
-        show(f"dali_commission-{words[0]}")
     call = call_of(words)
     if call.task in ("page", "building"):
         return serve(call)
@@ -366,18 +371,6 @@ def files_of(given: dict[str, list[str]], words: list[str], driver: list[str]) -
 
 def simulate(words: list[str]) -> int:
     """Plays scripts of benches and sites, draws them as pages and traces, and runs sites in threads."""
-    if words == ["--build"] and programs.BUILD.exists():
-        become(programs.BUILD, "dali_play", SIMULATE)
-    if words in (["-h"], ["--help"], ["help"]):
-        show("dali_sim", "dali_sim-launcher")
-    if len(words) == 2 and (words[0] == "help" or words[1] in ("-h", "--help")):
-        asked = words[1] if words[0] == "help" else words[0]
-        if asked in SIMULATIONS:
-            show("dali_view" if asked == "view" else f"dali_sim-{asked}")
-    if words in (["-V"], ["--version"]):
-        show("dali_sim-version")
-    if not words:
-        return refuse("dali_sim", "dali_sim-launcher")
     task, *rest = words
     if task == "replay":
         raise BadWord("`replay` takes no further word but --json or --story: ./dali_sim replay [--json|--story] < SCRIPT")
@@ -394,11 +387,7 @@ def simulate(words: list[str]) -> int:
 
 def view(words: list[str]) -> int:
     """Draws the run of a script as a page, or a story."""
-    if words in (["-h"], ["--help"]):
-        show("dali_view")
-    if words in (["-V"], ["--version"]):
-        become("sed", "s/dali_sim/dali_view/", HELP / "dali_sim-version.txt")
-    return draw("page", words) if not words or is_story(words) else refuse("dali_view")
+    return draw("page", words) if not words or is_story(words) else refuse(VIEW)
 
 
 def is_story(words: list[str]) -> bool:
@@ -443,7 +432,8 @@ LAUNCHERS = {COMMISSION: commission, SIMULATE: simulate, VIEW: view}
 
 def main(launcher: str, *words: str) -> int:
     try:
-        return LAUNCHERS[launcher](list(words))
+        answer(launcher, list(words))
+        return LAUNCHERS[launcher](list(words)) if words or launcher == VIEW else refuse(launcher)
     except BadWord as wrong:
         standard.say(f"error: {wrong}")
         return BAD_WORD

@@ -17,7 +17,7 @@ import typing
 
 from lib import ROOT, asking, browser, commission_faults, ssh_server
 from lib.drive_stubs import Checks
-from yolgibat import buildings, marks, places, working
+from yolgibat import building, marks, places
 
 STUB = ROOT / "tools/lib/commission_stub.py"
 # How the script is called: without what a site adds to Python, which it does not need.
@@ -102,7 +102,7 @@ def check_tables(checks: Checks, room: Room) -> None:
     table: dict[str, list[tuple[int, str]]] = {}
     for it in room.object("table")[0]["table"]:
         table.setdefault(it["bus"], []).append((it["address"], it["random"]))
-    for entry in buildings.read(room.file).entries:
+    for entry in building.read(room.file).entries:
         gear = room.gear(entry.name)
         shorts = {short for short, _ in gear if short is not None}
         checks.same(len(shorts), len(gear), f"{entry.name}: all gear have short addresses, no two one")
@@ -250,8 +250,8 @@ def try_delays(chosen: argparse.Namespace, program: str) -> int:
         drivers = {it.replace(".", "_"): driver.format(it.partition(".")[2], it) for it in names}
         room = Room(pathlib.Path(folder, "far"), names, program, **drivers)
         os.chdir(room.folder)
-        jobs = [working.Job(it, "run", program) for it in buildings.read(room.file).entries]
-        working.work(jobs, len(jobs), [])
+        jobs = [building.Job(it, "run", program) for it in building.read(room.file).entries]
+        building.work(jobs, len(jobs), [])
         for job in jobs:
             command, report = job.bus.command, job.reports[0]
             checks.same(job.status(), 0, f"{job.entry.name} ended: {job.said}")

@@ -91,6 +91,8 @@ class Place:
     def __init__(self, checks: Checks, title: str, program: str, troubles: collections.abc.Sequence[str] = ()) -> None:
         self.checks, self.title, self.program, self.is_right = checks, title, program, True
         self.troubles = list(troubles)
+        # What is set in the environment of the program.
+        self.settings: dict[str, str] = {}
         self.folder = pathlib.Path(tempfile.mkdtemp(prefix="commission-sites."))
         self.gear_file, self.records = self.folder / "gear.json", self.folder / "records.db"
         self.left = []
@@ -137,7 +139,7 @@ class Place:
         ends = (from_program, to_between, from_between, to_program)
         try:
             with open(said, "w") as err, open(self.folder / "said-by-driver", "a") as other:
-                how = {"stdin": from_between, "stdout": to_between, "stderr": err, "restore_signals": False}
+                how = {"stdin": from_between, "stdout": to_between, "stderr": err, "restore_signals": False, "env": os.environ | self.settings}
                 program = self.started([self.program, *map(str, words)], **how)
                 if plan.get("kill"):
                     plan["kill"]["pid"] = program.pid

@@ -7,6 +7,7 @@ import ast
 import os
 import pathlib
 import re
+import sys
 import types
 from collections.abc import Iterator
 
@@ -343,6 +344,15 @@ def readmes(root: pathlib.Path) -> Iterator[str]:
             yield f"{named(root, folder)}: it has no README"
 
 
+def front(root: pathlib.Path) -> Iterator[str]:
+    """The modules of yolgibat/ read the standard library and one another, and nothing else."""
+    known = {*sys.stdlib_module_names, "yolgibat"}
+    for file in files(root, "yolgibat/*.py"):
+        for it in ast.walk(ast.parse(file.read_text())):
+            names = [it.module or ""] if isinstance(it, ast.ImportFrom) else [each.name for each in it.names] if isinstance(it, ast.Import) else []
+            yield from (f"{named(root, file)}:{it.lineno}: it reads {name}" for name in names if name.partition(".")[0] not in known)
+
+
 def annotations(root: pathlib.Path) -> Iterator[str]:
     """The public functions of modules in Python have types at their arguments and their results."""
     for file in [*files(root, "tools/lib/*.py"), *files(root, "yolgibat/*.py"), *files(root, "adapters/*.py")]:
@@ -364,7 +374,7 @@ def public(body: list[ast.stmt], before: str = "") -> Iterator[tuple[str, ast.Fu
 
 RULES = (
     widths, lengths, imports, docs, crates, drawing, links, paths, examples, clauses, readmes, writing.words, writing.plain, kit,
-    handles, spellings, forms, page, edits, version, helps, annotations,
+    handles, spellings, forms, page, edits, version, helps, front, annotations,
 )
 # What is told, and is no offence.
 WARNINGS = (writing.sentences,)

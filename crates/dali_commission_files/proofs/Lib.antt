@@ -1,2 +1,3 @@
+mod Found
 pub mod Frames
 pub mod Told

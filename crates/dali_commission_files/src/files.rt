@@ -5,6 +5,7 @@ ghost use Rattle.std.specs.Prelude.{Ok, Err, IfOk, IfErr, OnOk, IfSome, None, tr
 ghost use Rattle.std.specs.IoError.{error_kind, raw_os_error};
 ghost use Rattle.sqlite.specs.Files.{over_files};
 ghost use Rattle.sqlite.specs.Held.{state, IsNew};
+ghost use Rattle.sqlite.specs.Recovery.{Image};
 ghost use Rattle.dali_script.specs.declared.records.Record.{Record};
 ghost use Rattle.dali_reserve.specs.Store.{IsReplay};
 ghost use Rattle.dali_sqlite.specs.Files.{HoldRecords};
@@ -16,10 +17,11 @@ ghost use Rattle.dali_commission_files.specs.Logs.{IsDamaged};
 ghost use Rattle.dali_commission_files.specs.Faults.{system_fault, or_number, copy_fault, closed_fault};
 ghost use Rattle.dali_commission_files.specs.Faults.{IsUnread, IsUnwritten, IsUnopened, IsUncopied, IsUnnoted};
 ghost use Rattle.dali_commission_files.specs.Faults.{IsUnheld, IsUnclosed};
-ghost use Rattle.dali_commission_files.specs.Opened.{names_of};
+ghost use Rattle.dali_commission_files.specs.Opened.{names_of, Shows, IsStoreOf};
 ghost use Rattle.dali_folder.specs.Events.{AreDone, HaveBegun};
 ghost use Rattle.dali_commission_files.specs.Folders.{events_of, HasSeen};
 
+use crate::databases::Databases;
 use crate::keeps::{CopyKeep, FileKeep};
 use crate::log::is_damaged;
 use dali_commission_said::{Failure, StoreFault};
@@ -246,7 +248,12 @@ fn options(rt: &HostRuntime) -> Result<Options, StoreFault>
     })
 }
 
-fn opened(rt: &HostRuntime, name: &str) -> Result<Connection<FileStore<File>>, StoreFault>
+/// A connection to the database of this name.
+pub(crate) fn opened(
+    rt: &HostRuntime,
+    name: &str,
+) -> Result<Connection<FileStore<File>>, StoreFault>
+    ensures found { IfOk result (λ conn. (image : Image) × Shows image conn) }
     ensures new { IfOk result IsNew }
     ensures refused { IfErr result IsUnopened }
 {
@@ -316,8 +323,9 @@ fn add<T: Drop>(list: &mut Vec<T>, item: T) -> Result<(), StoreFault>
 /// Files of records that are open, each with its name, in the order of these.
 type Open<'a> = Vec<(&'a str, Connection<FileStore<File>>)>;
 
-fn open_one<'a>(
+fn open_one<'a, B: Databases>(
     rt: &HostRuntime,
+    databases: &B,
     name: &'a str,
     held: &mut Open<'a>,
     all: &mut Vec<Kept>,
@@ -331,7 +339,7 @@ fn open_one<'a>(
     if lying.db.is_empty() && lying.log.is_empty() {
         return Err(StoreFault::Foreign);
     }
-    let (conn, kept) = noted(opened(rt, name)?)?;
+    let (conn, kept) = noted(databases.open(name)?)?;
     add(held, (name, conn))?;
     add(all, kept)?;
     Ok(())
@@ -339,8 +347,9 @@ fn open_one<'a>(
 
 /// Opens files of records, and notes what they have.
 #[tactic(auto, using(std::proofs::lemmas::List::append_assoc))]
-fn open_all<'a, F, D, H: Holder<F, D>>(
+fn open_all<'a, B: Databases, F, D, H: Holder<F, D>>(
     rt: &HostRuntime,
+    databases: &B,
     names: &'a [String],
     holder: &H,
     held: &mut Open<'a>,
@@ -352,10 +361,10 @@ fn open_all<'a, F, D, H: Holder<F, D>>(
     let [name, more @ ..] = names else {
         return Ok(());
     };
-    if let Err(fault) = open_one(rt, name.as_str(), held, all) {
+    if let Err(fault) = open_one(rt, databases, name.as_str(), held, all) {
         return Err(holder.refused(name, Failure::Store(fault)));
     }
-    open_all(rt, more, holder, held, all)
+    open_all(rt, databases, more, holder, held, all)
 }
 
 /// Closes a file of records, and adds it to those that are closed.
@@ -444,7 +453,7 @@ fn made(alloc: Global, name: &str, end: &str) -> Result<String, StoreFault>
     }
 }
 
-impl<'a, F: Folder> Stores for Files<'a, F> {
+impl<'a, F: Folder + Databases> Stores for Files<'a, F> {
     type Open = FileKeep;
 
     type Copy = CopyKeep;
@@ -455,7 +464,8 @@ impl<'a, F: Folder> Stores for Files<'a, F> {
 
     ghost saw = { λ files look. HasSeen F.saw files.folder look };
 
-    ghost opens = { λ _ _ _. Unit {0} };
+    ghost opens = { λ files seen lent. (image : Image) × F.lies files.folder seen.name.now image
+        × IsStoreOf image lent.keep };
 
     fn has(&self, name: &str) -> bool {
         self.folder.has(name)
@@ -463,7 +473,7 @@ impl<'a, F: Folder> Stores for Files<'a, F> {
 
     fn open(&mut self, seen: &Seen<'_>) -> Result<FileKeep, Failure> {
         let (rt, name) = (self.rt, seen.name());
-        let conn = opened(rt, name)?;
+        let conn = self.folder.open(name)?;
         if self.has(seen.journal()) {
             let _ = shut(rt, name, conn);
             return Err(Failure::Unfinished);
@@ -507,7 +517,7 @@ impl<'a, F: Folder> Stores for Files<'a, F> {
     ) -> Result<H::Out, Failure> {
         let mut open = Vec::new(alloc);
         let mut all = Vec::new(alloc);
-        let due = match open_all(self.rt, names, &holder, &mut open, &mut all) {
+        let due = match open_all(self.rt, &self.folder, names, &holder, &mut open, &mut all) {
             Ok(()) => holder.take(self, &all, beside),
             Err(failure) => Err(failure),
         };

@@ -1,9 +1,11 @@
 //! Files in which `dali_commission` keeps records, each a SQLite database.
 #![tactic(auto)]
 
+mod databases;
 mod files;
 mod keeps;
 mod log;
 
+pub use databases::Databases;
 pub use files::Files;
 pub use keeps::{CopyKeep, FileKeep};

@@ -81,7 +81,7 @@ where
         Task::Identify(short) => identify(system, &mut session.driver, *short, &mut session.report),
         Task::Table(form) => writes_table(system, stores, only(&asked.records), *form),
         Task::Replace(wanted) => {
-            let _heard = replaces(
+            match replaces(
                 system,
                 stores,
                 &mut session.driver,
@@ -89,9 +89,13 @@ where
                 &asked.records,
                 wanted,
                 &mut session.report,
-            )?;
-            note_first(alloc, stores, name, &mut session.report);
-            Ok(())
+            ) {
+                Ok(_heard) => {
+                    note_first(alloc, stores, name, &mut session.report);
+                    Ok(())
+                }
+                Err(failure) => Err(failure),
+            }
         }
         Task::Mend(wanted) => mends(system, stores, session, manner, asked, wanted),
         Task::Clear => clears(

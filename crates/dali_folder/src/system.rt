@@ -18,6 +18,11 @@ impl<'a, R> System<'a, R> {
     pub fn of(rt: &'a R) -> System<'a, R> {
         System { rt }
     }
+
+    /// The system.
+    pub fn runtime(&self) -> &'a R {
+        self.rt
+    }
 }
 
 #[tactic(auto, using(crate::proofs::Tried::any))]

@@ -1,11 +1,10 @@
-use Rattle.std.proofs.Common.{◌≡◌, ℕ, ◌⊎◌, inl, inr, Bool, true, false, List, [], ◌∷◌, Option, Some, None, refl, ap, subst, sym, ◌∙◌}
-use Rattle.std.specs.Prelude.{is_some}
+use Rattle.std.proofs.Common.{◌≡◌, ℕ, ◌⊎◌, inl, inr, Bool, true, false, List, [], ◌∷◌, None, refl, ap, subst, sym, ◌∙◌}
 use Rattle.dali_commission_stores.specs.Calls.{Call, Renamed, Opened, Closed, AreMade}
 use Rattle.dali_commission_stores.specs.Keeping.{aside_at, IsAside}
 use Rattle.dali_commission_stores.specs.Lent.{lent_calls}
 use Rattle.dali_commission_stores.specs.Settling.{new_at}
 use Rattle.dali_folder_laws.specs.Asides.{LiesOrAside}
-use Rattle.dali_folder_laws.specs.Folder.{Folder, IsSame, IsUsed, IsAfter, Leaves}
+use Rattle.dali_folder_laws.specs.Folder.{Folder, IsSame, IsUsed, IsAfter}
 use Rattle.dali_folder_laws.specs.Stops.{Program, starting, HasMade, Makes, Sees}
 use Rattle.dali_folder_laws.proofs.Asides.{running, well, not_there}
 

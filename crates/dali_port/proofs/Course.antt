@@ -55,7 +55,7 @@ course_by false s u low now is e =
     beyond (compared s low (s.since + half_bit)) s u (agreed_by (driven_in s) low s.agreed (s.since + half_bit)) (s.since + half_bit)
     (now - s.since) low now refl refl (turn_before s.since now is) e
 
-course_goes : (s u : Sent) (low : Bool) (now : ℕ) → sent_until s low now ≡ course.Goes u → GoesOn s u now
+pub course_goes : (s u : Sent) (low : Bool) (now : ℕ) → sent_until s low now ≡ course.Goes u → GoesOn s u now
 course_goes s u low now e = course_by (nat_lt (now - s.since) half_bit) s u low now refl e
 
 -- at the timer, at an edge, and if one may have been lost

@@ -2,3 +2,4 @@ mod Levels
 mod Words
 mod Begins
 mod Course
+mod Runs

@@ -220,3 +220,6 @@ send_by (Some refusal) p order now is = refl
 
 pub send_one : (p : Port) (order : Order) (now : ℕ) → HandsIn p (send_after p order now) (send_told p order now)
 send_one p order now = send_by (refused p order now) p order now refl
+
+pub was_free : (p : Port) (order : Order) (now : ℕ) → refused p order now ≡ None → p.phase ≡ Free
+was_free p order now is = free_is p.phase (not_refused (is_backwards p now) (is_free p.phase) (refusal_of order) is)

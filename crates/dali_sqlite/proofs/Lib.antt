@@ -5,5 +5,5 @@ mod Inserted
 mod Effects
 mod Taken
 mod Known
-mod Schemas
-mod Left
+pub mod Schemas
+pub mod Left

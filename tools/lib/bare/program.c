@@ -21,6 +21,8 @@
 
 #define BANDS 4
 #define STACK_WORDS (48 * 1024 / 4)
+/* The words above the stack of a call, where its fifth argument is if it is not in a register. */
+#define ABOVE 4
 #define PAINT UINT32_C(0x5C5C5C5C)
 /* The calls that do not drive a commissioning are made at each moment of so many. */
 #define BESIDE 13
@@ -83,7 +85,7 @@ struct call {
     struct figure figures[BANDS];
 };
 
-static uint32_t stacks[24][STACK_WORDS] ALIGNED;
+static uint32_t stacks[25][STACK_WORDS] ALIGNED;
 static struct course course;
 /* Of the two calls that take a step, those that ordered a later frame of a transaction, for which the bus waits. */
 static struct figure later[2][BANDS];
@@ -434,9 +436,6 @@ __attribute__((naked)) static uint32_t counted(const struct arguments *arguments
                      "ldr r5, =0xE000E018\n"
                      "mov sp, r2\n"
                      "ldm r6!, {r0, r1, r2, r3}\n"
-                     "ldr r6, [r6]\n"
-                     "sub sp, #8\n"
-                     "str r6, [sp]\n"
                      "ldr r6, [r5]\n"
                      "blx r7\n"
                      "ldr r5, [r5]\n"
@@ -531,7 +530,7 @@ static uint32_t measured(const struct call *call, const struct arguments *argume
 {
     uint32_t counts;
 
-    sampled_stack = top - STACK_WORDS;
+    sampled_stack = top + ABOVE - STACK_WORDS;
     SYSTICK_RELOAD = SAMPLE_COUNTS;
     SYSTICK_CONTROL = SYSTICK_ON | (call->entry == (void (*)(void))SAMPLED ? SYSTICK_INTERRUPT : 0);
     *status = counted(arguments, call->entry, top, &counts);
@@ -574,7 +573,8 @@ static uint32_t measure(struct call *call, uint32_t *stack)
 
     if (!call->ready(&course, &arguments))
         return 0;
-    count = measured(call, &arguments, stack + STACK_WORDS, &status);
+    stack[STACK_WORDS - ABOVE] = (uint32_t)arguments.at[4];
+    count = measured(call, &arguments, stack + STACK_WORDS - ABOVE, &status);
     must((uint8_t)status == DALI_OK, call->name);
     note(call->figures, count);
     return count;
@@ -756,10 +756,10 @@ static uint32_t depth(const uint32_t *stack)
 {
     unsigned at = 0;
 
-    while (at < STACK_WORDS && stack[at] == PAINT)
+    while (at < STACK_WORDS - ABOVE && stack[at] == PAINT)
         at++;
     must(at > 0, "a stack is too small");
-    return (STACK_WORDS - at) * 4;
+    return (STACK_WORDS - ABOVE - at) * 4;
 }
 
 static void report_figures(const struct figure *bands)
