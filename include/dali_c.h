@@ -57,7 +57,11 @@ enum dali_status {
     /* What is released is not reserved so. */
     DALI_NOT_RESERVED = 8,
     /* The struct is no machine of this version: another build of the library left it there, or none. */
-    DALI_OTHER_VERSION = 9
+    DALI_OTHER_VERSION = 9,
+    /* The time is before that of the last call. */
+    DALI_BACKWARDS = 10,
+    /* The last frame has not ended. */
+    DALI_BUSY = 11
 };
 
 /* What a machine is told. */
@@ -120,7 +124,8 @@ enum dali_end {
     DALI_ALL_FOUND = 1,
     /* The block has no free short address. */
     DALI_BLOCK_FULL = 2,
-    /* Eight transactions in a row were lost; or sixteen searches of a start, or eighty of a survey, led to no gear. */
+    /* Eight transactions in a row were lost; or sixteen searches of a start, or eighty of a survey, led to no gear; or
+     * dali_machine_stop ended the run. */
     DALI_GAVE_UP = 3
 };
 
@@ -153,6 +158,23 @@ enum dali_record_kind {
     DALI_RELEASE = 3
 };
 
+/* What a machine does, by dali_machine_progress. */
+enum dali_phase {
+    /* It has not started. */
+    DALI_NOT_STARTED = 0,
+    /* It asks gear under a short address for their random address. */
+    DALI_ASKING = 1,
+    /* It lets gear without short address draw random addresses, or searches them. */
+    DALI_SEARCHING = 2,
+    /* It visits a gear that was found, or for which a short address is reserved: asks it for its short address, and
+     * programs it if it has none. */
+    DALI_PROGRAMMING = 3,
+    /* It ends the initialisation of all gear. */
+    DALI_ENDING = 4,
+    /* It is done, or has halted. */
+    DALI_OVER = 5
+};
+
 /* What is to be done after a step, by dali_passes_step. */
 enum dali_next {
     /* What the machine has ordered. */
@@ -167,7 +189,7 @@ enum dali_next {
     DALI_NEXT_ENDED = 4
 };
 
-/* What a receiver of edges tells. */
+/* What a receiver of edges tells, and a port. */
 enum dali_frame_kind {
     /* No frame has ended. */
     DALI_NO_FRAME = 0,
@@ -178,7 +200,9 @@ enum dali_frame_kind {
     /* 24 bits, a forward frame for other devices: its three bytes. */
     DALI_DEVICE_FRAME = 3,
     /* Anything else: wrong bit times, a bit without a change in its middle, a wrong number of bits. */
-    DALI_DAMAGED_FRAME = 4
+    DALI_DAMAGED_FRAME = 4,
+    /* Of a port alone: the bus has been low for 500 ms, so it has no power. It is told once. */
+    DALI_NO_POWER = 5
 };
 
 /* A random address of 24 bits, as its three bytes. */
@@ -302,6 +326,15 @@ struct dali_table {
     struct dali_pair gear[DALI_ADDRESSES];
 };
 
+/* How far a machine is. Its phase is of enum dali_phase. */
+struct dali_progress {
+    uint8_t phase;
+    /* The one that is asked, or that is reserved for the gear that is visited; DALI_ADDRESSES if there is none. */
+    uint8_t short_address;
+    /* How many gear are enrolled, with those of earlier runs. */
+    uint8_t gear;
+};
+
 /* The runs of a controller, one machine after the other. Make one with dali_passes_new: how many runs up to the last have
  * found all gear and committed nothing, and whether this one has ordered a commit and has heard a byte. */
 struct dali_passes {
@@ -349,6 +382,48 @@ struct dali_heard {
     /* What dali_machine_step is told: DALI_HEARD_SILENCE, DALI_HEARD_BYTE with its byte, or DALI_HEARD_DAMAGED. */
     uint8_t input;
     uint8_t byte;
+};
+
+/* A port between the pins and a machine. Make one with dali_port_new; its fields are the library's alone. */
+struct dali_port {
+    uint64_t called;
+    uint64_t edge;
+    uint64_t first;
+    uint64_t randomise;
+    uint64_t draws;
+    uint64_t since;
+    uint64_t agreed;
+    uint64_t driven;
+    uint32_t drawn;
+    uint8_t priority;
+    uint8_t address_byte;
+    uint8_t opcode_byte;
+    uint8_t asks;
+    uint8_t half;
+    uint8_t at_half;
+    uint8_t phase;
+    uint8_t is_low;
+    uint8_t is_powerless;
+    uint8_t is_over;
+    uint8_t has_first;
+    uint8_t has_randomise;
+    uint8_t has_draws;
+    struct dali_window window;
+    struct dali_receiver receiver;
+};
+
+/* What each call of a port tells. */
+struct dali_event {
+    /* When to call dali_port_timer, if no other call comes before: at most 18 minutes later. */
+    uint32_t at;
+    /* 1 if the bus is to be driven low from now on, and whether it is to be from `at` on, unless a frame begins then. */
+    uint8_t is_low;
+    uint8_t next;
+    /* What dali_machine_step is told of the frame, DALI_HEARD_SILENCE to DALI_LAPSED with its byte; 0 if it has not ended. */
+    uint8_t input;
+    uint8_t byte;
+    /* What was read of others, while no frame of the port is on the bus. */
+    struct dali_told read;
 };
 
 /* DALI_C_VERSION of the library. */
@@ -405,6 +480,16 @@ uint8_t dali_machine_records(const struct dali_machine *machine, struct dali_rec
 /* The enrolment table of a machine. DALI_OTHER_VERSION, DALI_NO_MACHINE: `machine` is no machine's. */
 uint8_t dali_machine_table(const struct dali_machine *machine, struct dali_table *table);
 
+/* How far a machine is. DALI_OTHER_VERSION, DALI_NO_MACHINE: `machine` is no machine's. */
+uint8_t dali_machine_progress(const struct dali_machine *machine, struct dali_progress *progress);
+
+/* TO END A RUN BEFORE ITS TIME. The same as dali_machine_step, but a transaction that would begin is left out: TERMINATE
+ * is ordered in its place, and then DALI_DONE with DALI_GAVE_UP. A transaction that runs goes on, a record that was
+ * ordered is waited for, and the gear of a reservation is visited. So call it in place of dali_machine_step until the
+ * order is DALI_DONE or DALI_HALT; a run that ends by itself meanwhile has its own reason. A new machine with the records
+ * goes on. */
+uint8_t dali_machine_stop(struct dali_machine *machine, uint8_t input, uint8_t byte, struct dali_order *order);
+
 /* WHEN A CONTROLLER IS READY. The runs of a controller, before the first one. */
 uint8_t dali_passes_new(struct dali_passes *passes);
 
@@ -424,8 +509,9 @@ uint8_t dali_levels_new(struct dali_levels *levels, uint8_t address_byte, uint8_
 /* A window, at the last edge of the own forward frame. Make one after each frame, also one with `asks` 0. */
 uint8_t dali_window_new(struct dali_window *window);
 
-/* An edge. `micros` of the first one are those since the last edge of the own forward frame. A low that is no bit of an
- * answer damages what is heard, but for one that is shorter than 100 us.
+/* An edge. `micros` of the first one are those since the last edge of the own forward frame. An edge to high before any
+ * low and before 2400 us is an echo of that last edge, and changes nothing. A low that is no bit of an answer damages
+ * what is heard, but for one that is shorter than 100 us.
  *
  * DALI_BAD_ARGUMENT: `window` is none, or `is_low` is neither 0 nor 1. */
 uint8_t dali_window_edge(struct dali_window *window, uint8_t is_low, uint32_t micros);
@@ -450,6 +536,33 @@ uint8_t dali_receiver_edge(struct dali_receiver *receiver, uint8_t is_low, uint3
  *
  * DALI_BAD_ARGUMENT: `receiver` is none. */
 uint8_t dali_receiver_time(struct dali_receiver *receiver, uint32_t micros, struct dali_told *told);
+
+/* A PORT does all at the pins: it waits for the bus, sends, compares, breaks off, listens, and reads the frames of others.
+ * `now` is the time of a clock that counts microseconds in 32 bits, of an edge the time that was captured. Read the time,
+ * hand over each edge that was captured up to it, and then that time. After each call drive what `event` says.
+ *
+ * Each call answers DALI_BAD_ARGUMENT if `port` is none, or a level is neither 0 nor 1; DALI_BACKWARDS if `now` is before
+ * the time of the last call. Call once in 35 minutes at least. */
+
+/* A port at power-up, or if nothing is known of the bus but its level. */
+uint8_t dali_port_new(struct dali_port *port, uint8_t is_low, uint32_t now, struct dali_event *event);
+
+/* A frame to send, as a machine ordered it. It begins when the bus is at rest, `drawn` microseconds later than the least
+ * time of its priority: draw it anew for each frame, from 0 to 1,200.
+ *
+ * DALI_BUSY: the last frame has not ended. DALI_BAD_ARGUMENT: `order` is no DALI_PUT; or its second half has not
+ * DALI_LATER_PRIORITY; or `drawn` is too much. */
+uint8_t dali_port_send(struct dali_port *port, const struct dali_order *order, uint32_t drawn, uint32_t now,
+                       struct dali_event *event);
+
+/* An edge. If the bus has that level already, an edge was lost. */
+uint8_t dali_port_edge(struct dali_port *port, uint8_t is_low, uint32_t now, struct dali_event *event);
+
+/* An edge may have been lost, as when the capture unit overran, or an edge is refused by DALI_BACKWARDS. */
+uint8_t dali_port_lost(struct dali_port *port, uint8_t is_low, uint32_t now, struct dali_event *event);
+
+/* The time `at`, or any other. */
+uint8_t dali_port_timer(struct dali_port *port, uint32_t now, struct dali_event *event);
 
 #ifdef __cplusplus
 }

@@ -1,7 +1,6 @@
 #include "levels.h"
 #include "chance.h"
 #include "dali_c.h"
-#include "pins.h"
 
 /* Times here are nanoseconds after the last edge of a forward frame; what is handed over is whole microseconds. */
 #define MICRO UINT32_C(1000)
@@ -95,22 +94,27 @@ static void mix(struct levels_seen *seen, const void *thing, uint32_t size)
 static struct dali_heard heard_of(struct levels *levels, uint32_t first, uint32_t each, struct levels_seen *seen)
 {
     /* The timer begins anew meanwhile. */
-    uint32_t sent = UINT32_C(0xFFFFFFFF) - 9000, edge = 0;
+    uint32_t sent = UINT32_C(0xFFFFFFFF) - 9000, edge;
     struct dali_heard heard = {0, 0, 0};
-    struct pins pins;
+    struct dali_window window;
+    uint32_t last = sent;
 
     join(levels);
-    pins_sent(&pins, sent);
+    /* Of a low from the beginning on only the end is handed over: an echo. */
+    edge = levels->count > 0 && levels->lows[0].from == 0;
+    dali_window_new(&window);
     for (uint32_t now = first; heard.is_over == 0; now += each) {
-        for (; edge < 2 * levels->count && edge_at(levels, edge) <= now; edge++)
-            pins_edge(&pins, sent + edge_at(levels, edge), edge % 2 == 0);
-        pins_time(&pins, sent + now, &heard);
+        for (; edge < 2 * levels->count && edge_at(levels, edge) <= now; edge++) {
+            dali_window_edge(&window, edge % 2 == 0, sent + edge_at(levels, edge) - last);
+            last = sent + edge_at(levels, edge);
+        }
+        dali_window_time(&window, sent + now - last, &heard);
     }
     seen->silences += heard.input == DALI_HEARD_SILENCE;
     seen->bytes += heard.input == DALI_HEARD_BYTE;
     seen->damaged += heard.input == DALI_HEARD_DAMAGED;
     mix(seen, &heard, sizeof heard);
-    mix(seen, &pins.window, sizeof pins.window);
+    mix(seen, &window, sizeof window);
     return heard;
 }
 
@@ -166,6 +170,27 @@ static uint8_t lows(uint32_t count, uint32_t low, uint32_t each, struct levels_s
     for (uint32_t at = 0; at < count; at++)
         pull(&levels, 4 * MILLI + at * each, 4 * MILLI + at * each + low);
     return heard_of(&levels, 12401, 100, seen).input;
+}
+
+/* The last edge of the own frame is handed over once more, so many microseconds late, and an answer follows or not. */
+static uint8_t echoed(uint32_t late, int is_answered, struct levels_seen *seen)
+{
+    struct levels levels = {0, {{0, 0}}};
+
+    pull(&levels, 0, late * MICRO);
+    if (is_answered)
+        send(&levels, 7 * MILLI, HALF, 8, 0x0B);
+    return heard_of(&levels, 12401, 100, seen).input;
+}
+
+static const char *try_echoes(struct levels_seen *seen)
+{
+    for (uint32_t late = 1; late < 2400; late += 22)
+        if (echoed(late, 0, seen) != DALI_HEARD_SILENCE || echoed(late, 1, seen) != DALI_HEARD_BYTE)
+            return "an echo is heard";
+    return echoed(2400, 0, seen) == DALI_HEARD_DAMAGED && echoed(2400, 1, seen) == DALI_HEARD_DAMAGED
+               ? 0
+               : "a missed edge is not damaged";
 }
 
 /* Noise, a byte FF whose lows are too short, and a bus that stays low. */
@@ -293,6 +318,7 @@ const char *levels_try(uint64_t seed, uint32_t rounds, struct levels_seen *seen)
 
     *seen = (struct levels_seen){0, 0, 0, 0, UINT32_C(0x811C9DC5)};
     wrong = try_answers(seen);
+    wrong = wrong ? wrong : try_echoes(seen);
     wrong = wrong ? wrong : try_noise(seen);
     wrong = wrong ? wrong : try_frames(&chance, rounds, seen);
     return wrong ? wrong : try_drawn(&chance, rounds, seen);

@@ -1,4 +1,4 @@
-/* A simulated bus by its levels, and what a driver at its pins hears there. */
+/* A simulated bus by its levels, and what a window hears there. */
 #ifndef LEVELS_H
 #define LEVELS_H
 
@@ -14,7 +14,7 @@ struct levels_seen {
 };
 
 /* Sends frames, answers alone and together, and noise: first chosen ones, then `rounds` that are drawn. They are heard
- * by examples/c/pins.c and by a receiver. What is wrong, or 0. */
+ * by a window and by a receiver. What is wrong, or 0. */
 const char *levels_try(uint64_t seed, uint32_t rounds, struct levels_seen *seen);
 
 #endif

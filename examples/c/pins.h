@@ -1,27 +1,38 @@
-/* The reading end of a driver that sees the edges of the bus: what its interrupts hand over, what a machine is told.
+/* A port at the pins: one capture interrupt, one compare interrupt, one pin.
  *
- * The functions below are called in interrupts that do not interrupt each other. */
+ * The functions below do not interrupt each other: pins_send and pins_begin are called with both interrupts off. */
 #ifndef PINS_H
 #define PINS_H
 
 #include "dali_c.h"
 
-/* What is heard after a forward frame. Times are those of a timer that counts microseconds in 32 bits. */
 struct pins {
-    struct dali_window window;
-    uint32_t last_edge;
-    uint8_t is_open;
+    struct dali_port port;
+    struct dali_event event;
 };
 
-/* The last edge of the own forward frame was at this time. The next edge is that of an answer. */
-void pins_sent(struct pins *pins, uint32_t time);
+/* WHAT IS YOURS. A clock of microseconds in 32 bits, which also captures edges. */
+uint32_t pins_clock(struct pins *pins);
 
-/* An edge, at the time that the timer captured for it. `is_low` is 0 if the bus is high after it. */
-void pins_edge(struct pins *pins, uint32_t time, uint8_t is_low);
+/* Takes the edge that was captured: 1 with its time, 0 if there is none, and -1 if there were more than the unit holds. */
+int pins_captured(struct pins *pins, uint32_t *time);
 
-/* The time now, after each edge that was captured before it. Call it 12,401 microseconds after pins_sent, and then each
- * 100. 1 once the window is over: what the machine is told is in `heard` then. After a frame with `asks` 0 tell it
- * DALI_DESTROYED if that is no silence. */
-int pins_time(struct pins *pins, uint32_t now, struct dali_heard *heard);
+/* Whether the bus is low now. */
+uint8_t pins_level(struct pins *pins);
+
+/* Drives the bus low or not, and lets the compare interrupt come at a time, at once if that is past. */
+void pins_drive(struct pins *pins, uint8_t is_low, uint32_t at);
+
+/* Hands over what the machine is told, DALI_HEARD_SILENCE to DALI_LAPSED, or a frame of others that was read, to the task of the machine. */
+void pins_tell(struct pins *pins, const struct dali_event *event);
+
+/* WHAT YOU CALL. At power-up, */
+void pins_begin(struct pins *pins);
+
+/* with a frame that the machine ordered: DALI_OK, or why it is not taken, */
+uint8_t pins_send(struct pins *pins, const struct dali_order *order, uint32_t drawn);
+
+/* and in both interrupts. */
+void pins_interrupt(struct pins *pins);
 
 #endif

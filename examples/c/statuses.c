@@ -3,7 +3,7 @@
  *
  *     statuses [ROUNDS [SEED]]
  *
- * Each round tries a machine, records, a window and a receiver, some as they are, some with one byte
+ * Each round tries a machine, records, a window, a receiver and a port, some as they are, some with one byte
  * changed, some with all bytes at random; and it sends an answer and a frame by their levels. It says which of the first checks were wrong, and how many were right and
  * how many wrong; the status is 1 if one was wrong. */
 #include "chance.h"
@@ -61,12 +61,14 @@ static void check_layouts(void)
     CHECK_LAYOUT(dali_order, 12);
     CHECK_LAYOUT(dali_machine, 640);
     CHECK_LAYOUT(dali_table, 257);
+    CHECK_LAYOUT(dali_progress, 3);
     CHECK_LAYOUT(dali_passes, 3);
     CHECK_LAYOUT(dali_levels, 40);
     CHECK_LAYOUT(dali_receiver, 10);
     CHECK_LAYOUT(dali_told, 8);
     CHECK_LAYOUT(dali_window, 16);
     CHECK_LAYOUT(dali_heard, 3);
+    check(sizeof(struct dali_port) == 112 && sizeof(struct dali_event) == 16, "the size of a port and its event");
 }
 
 static struct dali_record record_of(uint8_t kind, uint8_t short_address, uint32_t random_address)
@@ -110,7 +112,22 @@ static void check_new(const struct dali_records *records, uint8_t status)
     check_written(&machine, sizeof machine, status, "what dali_machine_new writes");
 }
 
-/* A step, and if the struct holds a machine the same by dali_machine_go. */
+/* A stop has the status of a step, and leaves the records of one. */
+static void check_stop(const struct dali_machine *before, uint8_t input, uint8_t byte, uint8_t status)
+{
+    struct dali_machine stepped = *before;
+    struct dali_machine machine = *before;
+    struct dali_order order;
+
+    dali_machine_step(&stepped, input, byte, &order);
+    memset(&order, UNTOUCHED, sizeof order);
+    check(dali_machine_stop(&machine, input, byte, &order) == status, "the status of a stop");
+    check_written(&order, sizeof order, status, "the order of a stop");
+    check(memcmp(&machine.records, &stepped.records, sizeof machine.records) == 0, "the records after a stop");
+    check(status == DALI_OK || memcmp(&machine, before, sizeof machine) == 0, "a stop refuses and changes");
+}
+
+/* A step and a stop, and if the struct holds a machine the same step by dali_machine_go. */
 static void check_step(struct dali_machine *machine, uint8_t input, uint8_t byte, uint8_t status)
 {
     struct dali_machine before = *machine;
@@ -124,6 +141,7 @@ static void check_step(struct dali_machine *machine, uint8_t input, uint8_t byte
     check_written(&order, sizeof order, status, "the order of a step");
     if (status != DALI_OK)
         check(memcmp(machine, &before, sizeof before) == 0, "a step refuses and changes");
+    check_stop(&before, input, byte, status);
     if (status == DALI_NO_MACHINE || status == DALI_OTHER_VERSION)
         return;
     check(dali_machine_go(&other, input, byte, &other_order) == status, "the status of dali_machine_go");
@@ -131,17 +149,34 @@ static void check_step(struct dali_machine *machine, uint8_t input, uint8_t byte
     check(memcmp(&other_order, &order, sizeof order) == 0, "the order of dali_machine_go");
 }
 
+/* Whether the header has such a code. The switch has no default, as those below. */
+static int is_phase(enum dali_phase phase)
+{
+    switch (phase) {
+    case DALI_NOT_STARTED:
+    case DALI_ASKING:
+    case DALI_SEARCHING:
+    case DALI_PROGRAMMING:
+    case DALI_ENDING:
+    case DALI_OVER:
+        return 1;
+    }
+    return 0;
+}
+
 static void check_reads(const struct dali_machine *machine, uint8_t status)
 {
     struct dali_order order;
     struct dali_records records;
     struct dali_table table;
+    struct dali_progress progress;
     uint8_t due = UNTOUCHED;
     uint8_t answered;
 
     memset(&order, UNTOUCHED, sizeof order);
     memset(&records, UNTOUCHED, sizeof records);
     memset(&table, UNTOUCHED, sizeof table);
+    memset(&progress, UNTOUCHED, sizeof progress);
     /* What is due is read of the last order alone, so other bytes that hold no machine are passed over. */
     answered = dali_machine_due(machine, &due);
     check(answered == DALI_OK || (status != DALI_OK && answered == DALI_NO_MACHINE), "the status of dali_machine_due");
@@ -149,6 +184,11 @@ static void check_reads(const struct dali_machine *machine, uint8_t status)
     check(dali_machine_last(machine, &order) == status, "the status of dali_machine_last");
     check(dali_machine_records(machine, &records) == status, "the status of dali_machine_records");
     check(dali_machine_table(machine, &table) == status, "the status of dali_machine_table");
+    check(dali_machine_progress(machine, &progress) == status, "the status of dali_machine_progress");
+    check_written(&progress, sizeof progress, status, "what dali_machine_progress writes");
+    if (status == DALI_OK)
+        check(is_phase(progress.phase) && progress.short_address <= DALI_ADDRESSES && progress.gear == records.enrolled.count,
+              "how far a machine is");
     check_written(&due, sizeof due, answered, "what dali_machine_due writes");
     check_written(&order, sizeof order, status, "what dali_machine_last writes");
     check_written(&records, sizeof records, status, "what dali_machine_records writes");
@@ -485,6 +525,51 @@ static void reach_passes(void)
     check_pass(&passes, DALI_HEARD_BYTE, DALI_HALT + 1, 0, 0xFF);
 }
 
+/* A run that is to end after so many steps, on a bus without troubles: how many frames it sends then. */
+static int stop_after(int steps, uint8_t start, struct bus *bus, struct dali_records *records)
+{
+    struct told told = {start, 0};
+    struct dali_machine machine;
+    struct dali_order order = {DALI_NOTHING_ORDERED, 0, 0, 0, 0, 0, {0, {0, {0, 0, 0}}}, 0};
+    uint8_t last = 0;
+    int frames = 0;
+
+    dali_machine_new(&machine, records);
+    for (int step = 0; order.kind != DALI_DONE && step < steps + 100; step++) {
+        uint8_t status = step < steps ? dali_machine_step(&machine, told.input, told.byte, &order)
+                                      : dali_machine_stop(&machine, told.input, told.byte, &order);
+
+        if (status != DALI_OK)
+            break;
+        frames += order.kind == DALI_PUT && step >= steps;
+        if (order.kind == DALI_PUT)
+            last = order.address_byte;
+        told = order.kind == DALI_PUT ? bus_send(bus, order.address_byte, order.opcode_byte) : (struct told){DALI_COMMITTED, 0};
+    }
+    dali_machine_records(&machine, records);
+    check(order.kind == DALI_DONE && last == 0xA1, "a run that is to end does not end by TERMINATE");
+    return frames;
+}
+
+/* Runs that are to end at each step: no reservation is left without its gear, and a later run addresses all. */
+static void reach_stops(void)
+{
+    for (int steps = 0; steps < 500; steps++) {
+        struct dali_records records;
+        struct bus bus;
+
+        bus_new(&bus, 7, 3);
+        dali_records_new(&records, 0, 63);
+        check(stop_after(steps, steps % 2 ? DALI_START : DALI_SURVEY, &bus, &records) <= 14, "a run ends late");
+        check(records.reserved.count == records.enrolled.count, "a reservation is left without its gear");
+        for (int at = 0; at < records.enrolled.count; at++)
+            check(memcmp(&records.reserved.pairs[at], &records.enrolled.pairs[at], sizeof *records.enrolled.pairs) == 0,
+                  "another gear is enrolled");
+        stop_after(100000, DALI_SURVEY, &bus, &records);
+        check(records.enrolled.count == 3, "a run after one that was stopped");
+    }
+}
+
 /* Each status of the calls at the pins, at what they make and at bytes that are none. */
 static void reach_pins(unsigned long rounds, uint64_t seed)
 {
@@ -503,6 +588,104 @@ static void reach_pins(unsigned long rounds, uint64_t seed)
     check(!is_wrong, is_wrong ? is_wrong : "levels");
     printf("silence %lu, a byte %lu and damaged %lu times, %lu frames; ", (unsigned long)seen.silences,
            (unsigned long)seen.bytes, (unsigned long)seen.damaged, (unsigned long)seen.frames);
+}
+
+/* A call of a port has this status, and it writes nothing if it is refused. */
+static void check_port(uint8_t status, uint8_t wanted, const struct dali_port *port, const struct dali_port *before,
+                       const struct dali_event *event, const char *what)
+{
+    check(status == wanted, what);
+    check_written(event, sizeof *event, status, what);
+    check(status == DALI_OK || memcmp(port, before, sizeof *port) == 0, what);
+}
+
+/* Each call of a port in turn: all bytes of `given` are some, and the call that is chosen gets this level, time and frame. */
+static uint8_t port_call(struct dali_port *port, uint32_t call, uint8_t is_low, uint32_t now, const struct dali_order *order,
+                         struct dali_event *event)
+{
+    memset(event, UNTOUCHED, sizeof *event);
+    switch (call % 4) {
+    case 0:
+        return dali_port_edge(port, is_low, now, event);
+    case 1:
+        return dali_port_lost(port, is_low, now, event);
+    case 2:
+        return dali_port_timer(port, now, event);
+    default:
+        return dali_port_send(port, order, now % 1201, now, event);
+    }
+}
+
+/* Each status of a port, and what it tells of a frame that no gear answers. */
+static void reach_port(void)
+{
+    struct dali_order order = {DALI_PUT, DALI_FIRST_PRIORITY, 0xA9, 0, 1, DALI_WHOLE, {0, {0, {0, 0, 0}}}, 0};
+    struct dali_port port, before;
+    struct dali_event event;
+    uint32_t now = UINT32_C(0xFFFFFFFF) - 9000;
+    uint8_t was_low = 0;
+
+    memset(&port, UNTOUCHED, sizeof port);
+    before = port;
+    for (uint32_t call = 0; call < 4; call++)
+        check_port(port_call(&port, call, 0, now, &order, &event), DALI_BAD_ARGUMENT, &port, &before, &event, "a port that is none");
+    check(dali_port_new(&port, 2, now, &event) == DALI_BAD_ARGUMENT, "a level that is none");
+    check(dali_port_new(&port, 0, now, &event) == DALI_OK, "the status of dali_port_new");
+    before = port;
+    for (uint32_t call = 0; call < 4; call++) {
+        check_port(port_call(&port, call, 0, now - 1, &order, &event), DALI_BACKWARDS, &port, &before, &event, "a time before");
+        if (call < 2)
+            check_port(port_call(&port, call, 2, now, &order, &event), DALI_BAD_ARGUMENT, &port, &before, &event, "a level");
+    }
+    check(dali_port_send(&port, &order, 1401, now, &event) == DALI_BAD_ARGUMENT, "what is drawn is too much");
+    order.half = DALI_SECOND_HALF;
+    check(dali_port_send(&port, &order, 0, now, &event) == DALI_BAD_ARGUMENT, "a second half of priority 3");
+    order.half = DALI_WHOLE;
+    order.kind = DALI_COMMIT;
+    check(dali_port_send(&port, &order, 0, now, &event) == DALI_BAD_ARGUMENT, "an order that is no frame");
+    order.kind = DALI_PUT;
+    check(dali_port_send(&port, &order, 7, now, &event) == DALI_OK, "the status of dali_port_send");
+    check(dali_port_send(&port, &order, 7, now, &event) == DALI_BUSY, "a second frame");
+    /* The bus follows at once. */
+    for (int calls = 0; event.input == 0 && calls < 100; calls++) {
+        now = event.at;
+        check(dali_port_timer(&port, now, &event) == DALI_OK, "the status of dali_port_timer");
+        if (event.input == 0 && event.is_low != was_low)
+            check(dali_port_edge(&port, was_low = event.is_low, now, &event) == DALI_OK, "the status of dali_port_edge");
+    }
+    check(event.input == DALI_HEARD_SILENCE && event.is_low == 0, "what is told of a frame that no gear answers");
+    check(dali_port_lost(&port, 1, now, &event) == DALI_OK, "the status of dali_port_lost");
+    check(dali_port_timer(&port, now + 500000, &event) == DALI_OK && event.read.kind == DALI_NO_POWER, "a bus without power");
+}
+
+/* Any bytes as a port: what they tell has codes of the header. */
+static void try_port(uint64_t *chance)
+{
+    struct dali_order order = {DALI_PUT, (uint8_t)chance_below(chance, 7), 0xA7, 0, 0, (uint8_t)chance_below(chance, 4), {0, {0, {0, 0, 0}}}, 0};
+    struct dali_port port, before;
+    struct dali_event event;
+    uint8_t *bytes = (uint8_t *)&port, status;
+
+    for (size_t at = 0; at < sizeof port; at++)
+        bytes[at] = (uint8_t)chance_next(chance);
+    port.called >>= chance_below(chance, 40);
+    port.edge = port.called - chance_below(chance, 600000);
+    port.since = port.called - chance_below(chance, 2000);
+    port.priority %= 7;
+    port.half %= 4;
+    port.phase %= 6;
+    port.receiver.reading %= 6;
+    port.receiver.is_low %= 2;
+    port.window.receiver.reading %= 5;
+    port.window.receiver.is_low %= 2;
+    port.window.heard = (uint8_t)(1 + port.window.heard % 8);
+    before = port;
+    status = port_call(&port, chance_below(chance, 4), (uint8_t)chance_below(chance, 2), (uint32_t)port.called + chance_below(chance, 100000), &order,
+                       &event);
+    check(status == DALI_OK || status == DALI_BUSY || status == DALI_BAD_ARGUMENT, "the status of any port");
+    check_port(status, status, &port, &before, &event, "any port");
+    check(status != DALI_OK || (event.input <= DALI_LAPSED && event.read.kind <= DALI_NO_POWER && event.is_low <= 1 && event.next <= 1),
+          "the codes of an event");
 }
 
 /* A list has so many pairs, and this one is the last. */
@@ -631,7 +814,9 @@ int main(int count, char **words)
     check_layouts();
     reach_statuses();
     reach_passes();
+    reach_stops();
     reach_pins(rounds, chance);
+    reach_port();
     collect(machines, chance);
     for (unsigned long round = 0; round < rounds; round++) {
         struct dali_machine machine = machines[chance_below(&chance, MACHINES)];
@@ -645,6 +830,7 @@ int main(int count, char **words)
         change(&records, sizeof records, &chance);
         try_machine(&machine, input, (uint8_t)chance_next(&chance));
         try_records(&records, &addition);
+        try_port(&chance);
     }
     printf("%lu right, %lu wrong\n", right, wrong);
     return wrong > 0;

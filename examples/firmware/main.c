@@ -91,7 +91,7 @@ int flash_erase(int page)
     return how == 2;
 }
 
-/* If the power is cut meanwhile, some of the bits are written. None of a head is torn: docs/FIRMWARE.md says so. */
+/* If the power is cut meanwhile, some of the bits are written. */
 int flash_write(int page, int slot, const uint8_t *bytes)
 {
     uint8_t *to = &flash[page][slot * SLOT_BYTES];
@@ -104,7 +104,6 @@ int flash_write(int page, int slot, const uint8_t *bytes)
     for (int at = 0; how > 0 && at < SLOT_BYTES; at++) {
         must(how == 1 || to[at] == 0xFF, "a slot is written twice");
         flash_change(&to[at], &torn[page][slot * SLOT_BYTES + at], bytes[at], how, is_near_end);
-        torn[page][slot * SLOT_BYTES + at] &= slot > 0 ? 0xFF : 0;
     }
     writes += how == 2;
     surveyed = 0;
@@ -250,6 +249,25 @@ static void lose(uint64_t seed)
     }
 }
 
+/* The power is cut while the store is written anew, again and again, often in the midst of its head: no record is lost. */
+static void reopen(uint64_t seed)
+{
+    begin(seed);
+    bus.gear_count = 2;
+    must(live(FOR_GOOD) == NODE_READY, "a controller without troubles is not ready");
+    for (int cut = 0; cut <= 1000; cut++) {
+        struct dali_records records;
+        struct pages pages;
+        enum pages_status status;
+
+        moments = cut < 1000 ? 1 + chance_below(&chance, 9) : FOR_GOOD;
+        dali_records_new(&records, 0, DALI_ADDRESSES - 1);
+        status = pages_open(&pages, &records);
+        must(status == PAGES_OPEN || (status == PAGES_FAILED && moments == 0), "a store whose power was cut is not one");
+        must(records.enrolled.count == 2 && records.reserved.count == 2, "a record is lost");
+    }
+}
+
 /* However long the runs take, a controller ends. */
 static void bound(uint64_t seed)
 {
@@ -290,6 +308,7 @@ int main(void)
         fail(SEED + run);
         lose(SEED + run);
         find(SEED + run);
+        reopen(SEED + run);
     }
     bound(SEED);
     fill(SEED);

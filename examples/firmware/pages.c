@@ -1,11 +1,16 @@
 /* The records of one controller in two pages of flash. */
 #include "pages.h"
 
-/* The first byte of a slot: that of a head, or the kind of a record; and the second one of a head. */
+/* The first byte of a slot: that of a head, of the mark behind it, or the kind of a record; and the second one of a head. */
 #define HEAD 0xDA
-#define FORMAT 1
+#define MARK 0xDB
+#define FORMAT 2
 #define BLANK 0xFF
 #define CHECKED 5
+/* The slots of a page: its head, the mark, and the first record. */
+#define HEAD_SLOT 0
+#define MARK_SLOT 1
+#define FIRST_SLOT 2
 
 /* CRC-16 with the polynomial 1021, begun at FFFF. */
 static uint16_t check_of(const uint8_t *slot)
@@ -54,18 +59,22 @@ static int is_blank_from(int page, int slot)
     return slot == PAGE_SLOTS;
 }
 
+/* Once the mark was begun, the head before it is whole for good. One without it may have been torn, and no record was kept
+ * behind it. */
+enum rank { NO_HEAD = 0, UNMARKED = 1, MARKED = 2 };
+
 struct head {
-    int is_there;
+    enum rank rank;
     uint16_t age;
 };
 
 static struct head head_of(int page)
 {
     uint8_t bytes[SLOT_BYTES];
-    struct head head = {0, 0};
+    struct head head = {NO_HEAD, 0};
 
-    if (read_whole(page, 0, bytes) && bytes[0] == HEAD && bytes[1] == FORMAT) {
-        head.is_there = 1;
+    if (read_whole(page, HEAD_SLOT, bytes) && bytes[0] == HEAD && bytes[1] == FORMAT) {
+        head.rank = is_blank(page, MARK_SLOT) ? UNMARKED : MARKED;
         head.age = (uint16_t)(bytes[2] << 8 | bytes[3]);
     }
     return head;
@@ -79,13 +88,14 @@ static int write_record(int page, int slot, uint8_t kind, const struct dali_pair
     return write_slot(page, slot, bytes);
 }
 
-/* Writes what stands into the other page, which is the store once its head is there. */
+/* Writes what stands into the other page, which is the store once its head and the mark are there. */
 static int write_anew(struct pages *pages, const struct dali_records *standing)
 {
     int page = 1 - pages->page;
     uint16_t age = (uint16_t)(pages->age + 1);
     uint8_t head[CHECKED] = {HEAD, FORMAT, (uint8_t)(age >> 8), (uint8_t)age, 0};
-    int slot = 1;
+    uint8_t mark[CHECKED] = {MARK, 0, 0, 0, 0};
+    int slot = FIRST_SLOT;
 
     if (!flash_erase(page))
         return 0;
@@ -97,7 +107,7 @@ static int write_anew(struct pages *pages, const struct dali_records *standing)
         if (!write_record(page, slot++, DALI_ENROL, &standing->enrolled.pairs[at]))
             return 0;
     }
-    if (!write_slot(page, 0, head))
+    if (!write_slot(page, HEAD_SLOT, head) || !write_slot(page, MARK_SLOT, mark))
         return 0;
     pages->page = page;
     pages->age = age;
@@ -105,18 +115,20 @@ static int write_anew(struct pages *pages, const struct dali_records *standing)
     return 1;
 }
 
-/* Finds the page that is the store. Without one there was none yet, if no record was ever written. */
+/* Finds the page that is the store: of two that are marked the newer, and of two that are not the older, since both have the
+ * same records. Without a head there was no store yet, if no record was ever written. */
 static enum pages_status find(struct pages *pages)
 {
     struct head heads[PAGES] = {head_of(0), head_of(1)};
     /* Ages go round. */
     uint16_t ahead = (uint16_t)(heads[1].age - heads[0].age);
-    int newer = ahead > 0 && ahead < 0x8000;
+    int is_newer = ahead > 0 && ahead < 0x8000;
+    int is_equal = heads[0].rank == heads[1].rank;
 
-    pages->page = heads[1].is_there && (newer || !heads[0].is_there) ? 1 : 0;
+    pages->page = is_equal ? is_newer == (heads[1].rank == MARKED) : heads[1].rank > heads[0].rank;
     pages->age = heads[pages->page].age;
-    pages->slot = heads[pages->page].is_there ? 1 : PAGE_SLOTS;
-    if (heads[pages->page].is_there || (is_blank_from(0, 1) && is_blank_from(1, 1)))
+    pages->slot = heads[pages->page].rank != NO_HEAD ? FIRST_SLOT : PAGE_SLOTS;
+    if (heads[pages->page].rank != NO_HEAD || (is_blank_from(0, FIRST_SLOT) && is_blank_from(1, FIRST_SLOT)))
         return PAGES_OPEN;
     return PAGES_DAMAGED;
 }

@@ -1,5 +1,5 @@
 /* The records of one controller in two pages of flash. One page is the store, until it is full: then the other one is
- * written anew with what stands, and becomes the store by its head, which is written last. */
+ * written anew with what stands, and becomes the store by its head, and a mark behind it, which are written last. */
 #ifndef PAGES_H
 #define PAGES_H
 
@@ -8,7 +8,7 @@
 #define PAGES 2
 /* What flash writes at once, and only once after each erasure. */
 #define SLOT_BYTES 8
-/* A head, and more than the 128 records that a controller can have at one time. */
+/* A head, a mark, and more than the 128 records that a controller can have at one time. */
 #define PAGE_SLOTS 256
 
 /* The flash, which is yours; erased bytes are FF. 1 if it was done, else 0. A flash with error correction cannot read a slot that

@@ -9,9 +9,9 @@ import signal
 import subprocess
 import time
 
-from lib import forked, marks
 from lib.drive_stubs import Checks
 from lib.page_stubs import DRIVER, GEAR, PROGRAM, WAIT, Page, Room
+from yolgibat import forked, marks
 
 
 def check_beside(checks: Checks, folder: pathlib.Path) -> None:

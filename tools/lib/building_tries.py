@@ -15,12 +15,13 @@ import tempfile
 import time
 import typing
 
-from lib import ROOT, asking, browser, buildings, commission_faults, marks, places, ssh_server, working
+from lib import ROOT, asking, browser, commission_faults, ssh_server
 from lib.drive_stubs import Checks
+from yolgibat import building, marks, places
 
 STUB = ROOT / "tools/lib/commission_stub.py"
 # How the script is called: without what a site adds to Python, which it does not need.
-COMMAND = (sys.executable, "-S", ROOT / "tools/building")
+COMMAND = (sys.executable, "-S", ROOT / "yolgibat/__main__.py", "dali_commission", "building")
 # A driver that answers each frame, of this name.
 DRIVER = "sh -c 'while read -r line; do echo silence; done' {}"
 NAMES = ["school.ground.1", "school.ground.2", "school.first.1", "gym"]
@@ -101,7 +102,7 @@ def check_tables(checks: Checks, room: Room) -> None:
     table: dict[str, list[tuple[int, str]]] = {}
     for it in room.object("table")[0]["table"]:
         table.setdefault(it["bus"], []).append((it["address"], it["random"]))
-    for entry in buildings.read(room.file).entries:
+    for entry in building.read(room.file).entries:
         gear = room.gear(entry.name)
         shorts = {short for short, _ in gear if short is not None}
         checks.same(len(shorts), len(gear), f"{entry.name}: all gear have short addresses, no two one")
@@ -126,7 +127,7 @@ TAKEN, SIZE = "docs/pictures/building.png", (1000, 820)
 CALLS, ENDED, FRAMES = 4, (0, 13), 3000
 # The processes of a building, by what their command lines have.
 DRIVERS = "the drivers"
-KINDS = {"what joins each program and its driver": b"forked.serve", DRIVERS: b"adapters/simulated", "the command": b"tools/building"}
+KINDS = {"what joins each program and its driver": b"forked.serve", DRIVERS: b"adapters/simulated", "the command": b"yolgibat"}
 
 
 class Many(Room):
@@ -249,8 +250,8 @@ def try_delays(chosen: argparse.Namespace, program: str) -> int:
         drivers = {it.replace(".", "_"): driver.format(it.partition(".")[2], it) for it in names}
         room = Room(pathlib.Path(folder, "far"), names, program, **drivers)
         os.chdir(room.folder)
-        jobs = [working.Job(it, "run", program) for it in buildings.read(room.file).entries]
-        working.work(jobs, len(jobs), [])
+        jobs = [building.Job(it, "run", program) for it in building.read(room.file).entries]
+        building.work(jobs, len(jobs), [])
         for job in jobs:
             command, report = job.bus.command, job.reports[0]
             checks.same(job.status(), 0, f"{job.entry.name} ended: {job.said}")

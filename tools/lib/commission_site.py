@@ -27,8 +27,8 @@ from lib.record_kinds import ENROL, KINDS, RELEASE, RESERVE
 # The device for which adapters/spi-bus stands.
 PORT = "/dev/spidev0.0"
 BETWEEN = ROOT / "tools/lib/commission_between.py"
-# What joins a program and a driver as tools/drive does it, and builds nothing.
-JOIN = "import json, sys; from lib import joining; sys.exit(joining.join(*json.loads(sys.argv[1])))"
+# What joins a program and a driver as ./dali_commission does it, and builds nothing.
+JOIN = "import json, sys; from yolgibat import joining; sys.exit(joining.join(*json.loads(sys.argv[1])))"
 MASK24 = 0xFFFFFF
 # The exit statuses of the program.
 DONE, NOT_SO, DRIVER, STORE, BLOCK_FULL, GAVE_UP, NOBODY, KILLED = 0, 1, 4, 5, 6, 7, 10, -signal.SIGKILL
@@ -179,7 +179,7 @@ class Place:
         both = [[str(self.program), *map(str, words)], driver, 10, True]
         call = [sys.executable, "-S", "-c", JOIN, json.dumps(both)]
         pipes = {"stdout": subprocess.PIPE, "stderr": subprocess.PIPE, "text": True}
-        joined = self.started(call, cwd=ROOT / "tools", stdin=subprocess.DEVNULL, **pipes)
+        joined = self.started(call, cwd=ROOT, stdin=subprocess.DEVNULL, **pipes)
         time.sleep(after)
         joined.send_signal(number)
         wrote, said = joined.communicate(timeout=PATIENCE)
@@ -192,7 +192,7 @@ class Place:
         report.unlink(missing_ok=True)
         plan |= {"driver": driver, "report": str(report)}
         both = [[str(self.program), *map(str, words)], [sys.executable, "-S", str(BETWEEN), json.dumps(plan)], seconds]
-        how = {"cwd": ROOT / "tools", "stdin": subprocess.DEVNULL, "capture_output": True, "text": True, "timeout": PATIENCE}
+        how = {"cwd": ROOT, "stdin": subprocess.DEVNULL, "capture_output": True, "text": True, "timeout": PATIENCE}
         done = subprocess.run([sys.executable, "-S", "-c", JOIN, json.dumps(both)], **how)
         frames = json.loads(report.read_text())["lines"]
         self.checks.count("frames", frames)

@@ -3,9 +3,10 @@
 import re
 import typing
 
-from lib import ROOT, call_words
+from lib import ROOT
+from yolgibat import call_words
 
-HELP = ROOT / "tools/lib/help"
+HELP = ROOT / "yolgibat/help"
 PROGRAMS = ("dali_commission", "dali_sim", "dali_view")
 # An option in a list of them, with the name of its value; in a line that says what a command takes, too.
 LISTED = re.compile(r"^ +(?:-\w, )?(--[\w-]+)(?:[ =]<?([A-Z]+)>?(?= |$))?(?: {2,}(\S.*))?", re.M)

@@ -16,12 +16,12 @@ from lib import ROOT
 
 JOIN = """
 import json, sys, time
-from lib import joining
+from yolgibat import joining
 sys.exit(joining.join(*json.loads(sys.argv[1])))
 """
 # The same, slow to start the two, so that a signal comes before.
-JOIN_LATE = JOIN.replace("from lib import joining\n", """
-from lib import joining
+JOIN_LATE = JOIN.replace("from yolgibat import joining\n", """
+from yolgibat import joining
 starts = joining.started
 def late(*words):
     print("starting", file=sys.stderr, flush=True)
@@ -30,8 +30,8 @@ def late(*words):
 joining.started = late
 """)
 # The same, slow to pass an answer on, so that the driver writes more before the next frame.
-JOIN_SLOW = JOIN.replace("from lib import joining\n", """
-from lib import joining, relay
+JOIN_SLOW = JOIN.replace("from yolgibat import joining\n", """
+from yolgibat import joining, relay
 passes = relay.Relay.answer
 def slow(self, line):
     passes(self, line)
@@ -185,7 +185,7 @@ def joined(
     pipes = {"stdin": subprocess.DEVNULL, "stdout": subprocess.PIPE, "stderr": subprocess.PIPE, "text": True}
     words = [*python(join), json.dumps([program, driver, *more])]
     words = ignoring(ignored, words) if ignored else words
-    return subprocess.Popen(words, cwd=ROOT / "tools", start_new_session=True, **{**pipes, **how})
+    return subprocess.Popen(words, cwd=ROOT, start_new_session=True, **{**pipes, **how})
 
 
 def ended(ran: subprocess.Popen[str]) -> tuple[str | None, str, int | None]:
@@ -205,7 +205,8 @@ class Clone:
 
     def __init__(self, room: pathlib.Path) -> None:
         self.root, self.work = room / "clone", room / "work"
-        shutil.copytree(ROOT / "tools", self.root / "tools", ignore=shutil.ignore_patterns("__pycache__"))
+        for name in ("tools", "yolgibat"):
+            shutil.copytree(ROOT / name, self.root / name, ignore=shutil.ignore_patterns("__pycache__"))
         for name in ("KIT", "HANDLES", "dali_commission"):
             shutil.copy(ROOT / name, self.root)
         self.put(self.root / "crates.txt", "dali_commission:\n")
@@ -213,7 +214,7 @@ class Clone:
         self.put(self.root / "extra/programs.txt", "")
         self.source = self.put(self.root / "crates/dali_commission/src/main.rt", "// nothing\n")
         for name in ("", "-run", "-check", "-identify", "-table", "-replace", "-mend", "-clear", "-page", "-building", "-launcher", "-version"):
-            self.put(self.root / f"tools/lib/help/dali_commission{name}.txt", f"help{name}\n")
+            self.put(self.root / f"yolgibat/help/dali_commission{name}.txt", f"help{name}\n")
         self.put(self.root / "adapters/one", DRIVER)
         self.put(self.work / "near/two", DRIVER)
         for name, text in KIT.items():

@@ -1,11 +1,11 @@
-"""The help and the version of the programs: tools/lib/help has them, so that they are there before a program is built."""
+"""The help and the version of the programs: yolgibat/help has them, so that they are there before a program is built."""
 
 import pathlib
 import subprocess
 
-from lib import proving
+from lib import ROOT, proving
 
-FOLDER = pathlib.Path(__file__).resolve().parent / "help"
+FOLDER = ROOT / "yolgibat/help"
 # Of each program the file of each text, and the words that ask for it. What only the launchers say, no program does: the files
 # of `launcher`, `page`, `building`, `audit` and `trace`, and dali_view.txt. In place of dali_commission.txt ./dali_commission says
 # dali_commission-launcher.txt, which the lint compares with the helps of its commands.

@@ -7,6 +7,7 @@ import ast
 import os
 import pathlib
 import re
+import sys
 import types
 from collections.abc import Iterator
 
@@ -209,8 +210,8 @@ def headings(file: pathlib.Path) -> set[str]:
 
 
 def paths(root: pathlib.Path) -> Iterator[str]:
-    """Paths of the repository that documents name, as `docs/FORMAT.md` or `tools/launch`, are there."""
-    tops = (*FOLDERS, "adapters", "docs", "tools", "examples", "include")
+    """Paths of the repository that documents name, as `docs/FORMAT.md` or `yolgibat/launch`, are there."""
+    tops = (*FOLDERS, "adapters", "docs", "tools", "yolgibat", "examples", "include")
     for file in everywhere(root, ".md"):
         if file.name == "CHANGELOG.md":
             continue
@@ -246,7 +247,7 @@ def kit(root: pathlib.Path) -> Iterator[str]:
     """The kit's name stands in the file KIT alone."""
     name = (root / "KIT").read_text().split()[0]
     found = [file for suffix in (".md", ".rt", ".py") for file in everywhere(root, suffix)]
-    found += [file for pattern in ("tools/**/*", ".ci/*", "*") for file in files(root, pattern)]
+    found += [file for pattern in ("tools/**/*", "yolgibat/**/*", ".ci/*", "*") for file in files(root, pattern)]
     for file in found:
         if file.is_file() and file != root / "KIT" and name in file.read_text(errors="replace"):
             yield f"{named(root, file)}: the kit's name stands here, and in KIT"
@@ -306,7 +307,7 @@ def version(root: pathlib.Path) -> Iterator[str]:
         "crates/dali_words/src/program.rt": r'VERSION: &str = "(.*)"',
         "include/dali_c.h": r'#define DALI_VERSION "(.*)"',
         "CHANGELOG.md": r"(?m)^## (\d.*)",
-        **{f"tools/lib/help/{it}-version.txt": rf"{it} (.*)" for it in ("dali_sim", "dali_commission")},
+        **{f"yolgibat/help/{it}-version.txt": rf"{it} (.*)" for it in ("dali_sim", "dali_commission")},
     }
     structs = {"crates/dali_c/src/state.rt": r"VERSION: u8 = (\d+);", "include/dali_c.h": r"#define DALI_C_VERSION (\d+)\n"}
     for places in (program, structs):
@@ -319,14 +320,14 @@ def version(root: pathlib.Path) -> Iterator[str]:
 
 def helps(root: pathlib.Path) -> Iterator[str]:
     """The help of ./dali_commission is at most 100 columns wide, lists `page` first, and names each command and each of its options."""
-    own = root / "tools/lib/help/dali_commission-launcher.txt"
+    own = root / "yolgibat/help/dali_commission-launcher.txt"
     text = own.read_text() if own.exists() else ""
     for at, line in enumerate(text.splitlines(), 1):
         if len(line) > HELP_WIDTH:
             yield f"{named(root, own)}:{at}: {len(line)} columns, and {HELP_WIDTH} at most"
     if text and not re.search(r"^Commands:\n  page ", text, re.M):
         yield f"{named(root, own)}: page is not its first command"
-    for file in files(root, "tools/lib/help/dali_commission-*.txt") if text else ():
+    for file in files(root, "yolgibat/help/dali_commission-*.txt") if text else ():
         words = re.findall(r"^ +(?:-\w, )?(--[\w-]+)", file.read_text(), re.M)
         for word in words if file != own else ():
             if not re.search(rf"{word}(?![\w-])", text):
@@ -343,9 +344,18 @@ def readmes(root: pathlib.Path) -> Iterator[str]:
             yield f"{named(root, folder)}: it has no README"
 
 
+def front(root: pathlib.Path) -> Iterator[str]:
+    """The modules of yolgibat/ read the standard library and one another, and nothing else."""
+    known = {*sys.stdlib_module_names, "yolgibat"}
+    for file in files(root, "yolgibat/*.py"):
+        for it in ast.walk(ast.parse(file.read_text())):
+            names = [it.module or ""] if isinstance(it, ast.ImportFrom) else [each.name for each in it.names] if isinstance(it, ast.Import) else []
+            yield from (f"{named(root, file)}:{it.lineno}: it reads {name}" for name in names if name.partition(".")[0] not in known)
+
+
 def annotations(root: pathlib.Path) -> Iterator[str]:
     """The public functions of modules in Python have types at their arguments and their results."""
-    for file in [*files(root, "tools/lib/*.py"), *files(root, "adapters/*.py")]:
+    for file in [*files(root, "tools/lib/*.py"), *files(root, "yolgibat/*.py"), *files(root, "adapters/*.py")]:
         for name, it in public(ast.parse(file.read_text()).body):
             listed = [*it.args.posonlyargs, *it.args.args, it.args.vararg, *it.args.kwonlyargs, it.args.kwarg]
             lacks = [that.arg for that in listed if that and that.annotation is None and that.arg not in ("self", "cls")]
@@ -364,7 +374,7 @@ def public(body: list[ast.stmt], before: str = "") -> Iterator[tuple[str, ast.Fu
 
 RULES = (
     widths, lengths, imports, docs, crates, drawing, links, paths, examples, clauses, readmes, writing.words, writing.plain, kit,
-    handles, spellings, forms, page, edits, version, helps, annotations,
+    handles, spellings, forms, page, edits, version, helps, front, annotations,
 )
 # What is told, and is no offence.
 WARNINGS = (writing.sentences,)

@@ -4,9 +4,10 @@ import collections.abc
 import re
 import typing
 
-from lib import ROOT, call_words, packing
+from lib import ROOT, packing
+from yolgibat import call_words
 
-HELP = ROOT / "tools/lib/help"
+HELP = ROOT / "yolgibat/help"
 # What of a help text is about building, and the name of a launcher in one.
 BUILD, CALL = re.compile(r"^ +--build .*\n", re.M), re.compile(r"(?:\./)?\bdali_(commission|sim|view)\b")
 # Where FORMAT.md has the statuses of a launcher.

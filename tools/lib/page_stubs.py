@@ -31,11 +31,11 @@ class Room:
         # While it is there a command of the stub does not end.
         self.hold = self.folder / "hold"
 
-    def words(self, tool: str, *words: str) -> list[str]:
-        return [str(ROOT / "tools" / tool), *words, "--program", str(PROGRAM), "--records", str(self.records)]
+    def words(self, *words: str) -> list[str]:
+        return [str(ROOT / "dali_commission"), *words, "--program", str(PROGRAM), "--records", str(self.records)]
 
-    def ran(self, tool: str, *words: str, given: str = "") -> tuple[str, str, int]:
-        done = subprocess.run(self.words(tool, *words), input=given, capture_output=True, text=True, env=self.env, timeout=WAIT)
+    def ran(self, *words: str, given: str = "") -> tuple[str, str, int]:
+        done = subprocess.run(self.words(*words), input=given, capture_output=True, text=True, env=self.env, timeout=WAIT)
         return done.stdout, done.stderr, done.returncode
 
 

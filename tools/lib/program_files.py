@@ -1,11 +1,8 @@
 """What somebody uses who has no kit, as files of an archive: the programs, their launchers, adapters, examples, manuals and licences.
 
-A launcher and what it calls are those of the clone, but nothing of them proves or builds: tools/lib/packaged has what takes the place of
-files that do. A tool, a module or a text that a launcher needs is found by reading the launcher, so a further one is there by itself.
+What runs are the launchers, the folders of RUNS and the programs. tools/lib/packaged has files for Debian alone.
 """
 
-import ast
-import collections.abc
 import pathlib
 import re
 
@@ -14,17 +11,10 @@ from lib.packing import Entry, Files
 
 LAUNCHERS = ("dali_commission", "dali_sim", "dali_view")
 PACKAGED = ROOT / "tools/lib/packaged"
-# What takes the place of files of the clone.
-REPLACED = {"tools/launch": PACKAGED / "launch", "tools/lib/programs.py": PACKAGED / "programs.py"}
-# The lines of launchers that build or tell of it.
-BUILDS = re.compile(r"^(?:.*tools/build\b.*|#(?!!).*)\n", re.M)
-# The tools that a launcher calls: by their path, as the value of `call`, or by a command that has the name of its tool.
-CALLED = re.compile(r"\btools/([\w-]+)|\bcall=(\w+)|\b(\w+):\3\b")
-NOT_CALLED = ("build", "launch", "lib")
+# What runs, beside the launchers and the programs: all files of these folders.
+RUNS = ("yolgibat", "adapters", "include")
 # A launcher as it is called in a clone, in a text of a launcher or a tool.
 IN_CLONE = re.compile(rb"\./dali_(commission|sim|view)\b")
-# A file of the repository that a module reads.
-READ = re.compile(r'ROOT / "([^"]+/[^"]+)"')
 # The pages for installers. What they lead to beside these and their pictures is left out, and so are the links to it.
 MANUALS = ("INSTALLER", "BUILDING", "ADAPTERS", "FORMAT", "STORES", "GLOSSARY", "PROMISE", "RULES")
 # The page on which scripts are played in a browser. It is taken along if it was made.
@@ -74,58 +64,21 @@ def kit_crates(made: list[proving.Crate] | None = None) -> list[str]:
     return sorted(found)
 
 
-def launcher(name: str) -> str:
-    """A launcher without what builds."""
-    return BUILDS.sub("", (ROOT / name).read_text())
-
-
-def tools() -> list[str]:
-    """The tools that the launchers call."""
-    found = {next(filter(None, it)) for name in LAUNCHERS for it in CALLED.findall(launcher(name))}
-    return sorted(it for it in found if it not in NOT_CALLED and (ROOT / "tools" / it).is_file())
-
-
-def modules(sources: collections.abc.Iterable[str]) -> Files:
-    """The modules of tools/lib that these sources read, and those that they read in turn."""
-    found: Files = {}
-    left = ["__init__", *(name for it in sources for name in imported(it))]
-    while left:
-        place = f"tools/lib/{left.pop()}.py"
-        if place not in found and (ROOT / place).is_file():
-            found[place] = Entry(REPLACED.get(place, ROOT / place).read_bytes())
-            left += imported(found[place].content.decode())
-    return found
-
-
-def imported(source: str) -> list[str]:
-    """The modules of tools/lib that a source reads, and names beside them."""
-    found = [it for it in ast.walk(ast.parse(source)) if isinstance(it, ast.ImportFrom) and it.module]
-    from_all = [name.name for it in found if it.module == "lib" for name in it.names]
-    return from_all + [it.module.removeprefix("lib.") for it in found if it.module.startswith("lib.")]
-
-
-def data(sources: collections.abc.Iterable[str]) -> list[pathlib.Path]:
-    """The files that these sources read, and all files of folders among them."""
-    found = [ROOT / it for source in sources for it in READ.findall(source) if not it.endswith("help")]
-    return [file for it in found for file in ([it] if it.is_file() else it.rglob("*")) if file.is_file()]
+def files(folder: pathlib.Path) -> list[pathlib.Path]:
+    """The files below a folder, but not what Python makes of them."""
+    return [it for it in folder.rglob("*") if it.is_file() and "__pycache__" not in it.parts]
 
 
 def running(made: dict[str, bytes], is_installed: bool = False) -> Files:
-    """What runs: the launchers and all that they need. Once it is installed, the texts name the launchers as they are called then."""
-    found: Files = {it: Entry(launcher(it).encode(), True) for it in LAUNCHERS}
-    found |= {f"programs/{name}": Entry(content, True) for name, content in made.items()}
-    found["tools/launch"] = Entry(REPLACED["tools/launch"].read_bytes(), True)
-    found |= packing.read(*(ROOT / "tools" / it for it in tools()))
-    if is_installed:
-        found |= {name: it._replace(content=IN_CLONE.sub(rb"dali-\1", it.content)) for name, it in found.items() if not name.startswith("programs/")}
-    found |= modules(it.content.decode() for name, it in list(found.items()) if name.removeprefix("tools/") in tools())
-    sources = [it.content.decode() for name, it in found.items() if name.startswith("tools/")]
-    found |= packing.read(*(it for it in data(sources) if str(it.relative_to(ROOT)) not in found))
-    for it in (ROOT / "tools/lib/help").glob("*.txt"):
-        text = it.read_text()
-        found[str(it.relative_to(ROOT))] = Entry((manual_pages.spoken(text) if is_installed else manual_pages.BUILD.sub("", text)).encode())
-    adapters = [it for it in (ROOT / "adapters").rglob("*") if it.is_file() and "__pycache__" not in it.parts]
-    return found | packing.read(ROOT / "include/dali_c.h", *adapters)
+    """What runs. Once it is installed, the texts name the launchers as they are called then."""
+    found = packing.read(*(ROOT / it for it in LAUNCHERS), *(file for it in RUNS for file in files(ROOT / it)))
+    for name, it in found.items():
+        if name.startswith("yolgibat/help/"):
+            text = it.content.decode()
+            found[name] = it._replace(content=(manual_pages.spoken(text) if is_installed else manual_pages.BUILD.sub("", text)).encode())
+        elif is_installed:
+            found[name] = it._replace(content=IN_CLONE.sub(rb"dali-\1", it.content))
+    return found | {f"programs/{name}": Entry(content, True) for name, content in made.items()}
 
 
 def manuals() -> Files:

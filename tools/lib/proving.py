@@ -20,7 +20,8 @@ import threading
 import time
 from collections.abc import Callable, Iterator
 
-from lib import ROOT, standard
+from lib import ROOT
+from yolgibat import standard
 
 CRATES = ROOT / "crates"
 # What the gate proves, and the programs beside it. Each has a list of its crates.

@@ -6,9 +6,10 @@ import json
 import pathlib
 import subprocess
 
-from lib import ROOT, places, serials
+from lib import ROOT
 from lib.drive_stubs import Checks
 from lib.page_stubs import GEAR, Page, Room
+from yolgibat import places, serials
 
 # Two serial numbers that differ in one byte, and what is read of the first one.
 FIRST, OTHER = (4012345678901, 0x0123456789ABCDEF), (4012345678901, 0x0123456789ABCDEE)
@@ -53,7 +54,7 @@ def check_serials(checks: Checks, folder: pathlib.Path) -> None:
     room = Room(folder, records={"5": GEAR[0], "7": GEAR[1], "9": GEAR[2]}, gear=GEAR[:3])
     file = serials.file_of(room.records)
     driver = ("--driver", f"adapters/simulated {gear} --alike")
-    wrote, said, status = room.ran("serials", "check", "--serials", "--json", *driver)
+    wrote, said, status = room.ran("check", "--serials", "--json", *driver)
     report = json.loads(wrote)
     told = [(it["address"], it["random"], it["gtin"], it["several"], it["unread"]) for it in report["serials"]]
     both = ["gtin", "identification"]
@@ -71,11 +72,11 @@ def check_serials(checks: Checks, folder: pathlib.Path) -> None:
 def check_shown(checks: Checks, room: Room) -> None:
     """The table and the page have the numbers."""
     places.note(room.names, GEAR[1], "Hall")
-    checks.same(room.ran("places", "table", "--names")[0], f"5 {GEAR[0]}\n7 {GEAR[1]} Hall ({TEXT})\n9 {GEAR[2]}\n", "table --names")
-    rows = list(csv.DictReader(io.StringIO(room.ran("places", "table", "--names", "--csv")[0])))
+    checks.same(room.ran("table", "--names")[0], f"5 {GEAR[0]}\n7 {GEAR[1]} Hall ({TEXT})\n9 {GEAR[2]}\n", "table --names")
+    rows = list(csv.DictReader(io.StringIO(room.ran("table", "--names", "--csv")[0])))
     found = [(it["address"], it["place"], it["gtin"], it["identification"]) for it in rows]
     checks.same(found, [("5", "", "", ""), ("7", "Hall", "4012345678901", "0x0123456789ABCDEF"), ("9", "", "", "")], "table --names --csv")
-    found = json.loads(room.ran("places", "table", "--names", "--json")[0])[1]
+    found = json.loads(room.ran("table", "--names", "--json")[0])[1]
     checks.same(found, {"address": 7, "random": GEAR[1], "place": "Hall", **KNOWN}, "table --names --json")
     with Page(room) as page:
         checks.same([it["serial"] for it in page.state()["places"]], [None, KNOWN, None], "the page has them")
@@ -86,16 +87,16 @@ def check_read_again(checks: Checks, room: Room, gear: pathlib.Path, driver: tup
     """Another gear under the number of one that was read, one number under two addresses, and what cannot be read."""
     lit(gear, (5, GEAR[0], FIRST), (7, GEAR[1], OTHER), (63, "50000E", FIRST))
     room.bus.write_text(json.dumps([*GEAR[:3], "50000E"]))
-    _, said, status = room.ran("serials", "check", "--serials", *driver)
+    _, said, status = room.ran("check", "--serials", *driver)
     checks.say(f"7 {GEAR[1]} another gear than at the last reading, which told {TEXT}\n" in said and status == 1, f"another gear under a number: {said}")
     found, told = {7: GEAR[1], 63: GEAR[1]}, {7: KNOWN, 63: KNOWN | {"gtin": 2}}
     said = "\n".join(serials.lines_of(found, told, {GEAR[1]: KNOWN}))
     is_said = f"7 and 63: gear with one random address, {GEAR[1]}, " in said and "another" not in said
     checks.say(is_said, f"one number under two addresses, of which neither is another than before: {said}")
-    _, said, status = room.ran("serials", "check", "--serials", "--driver", f"{driver[1]} --destroy 1")
+    _, said, status = room.ran("check", "--serials", "--driver", f"{driver[1]} --destroy 1")
     checks.say(status == 7 and "eight times in a row" in said, f"frames that are lost: {said}")
     for words, wanted in ((["check", "--serials"], 2), (["check", *driver], 2), (["run", "--serials", *driver], 2), (["check", "--serials", "--driver", "./none"], 127)):
-        checks.same(room.ran("serials", *words)[2], wanted, f"words that are refused: {words}")
+        checks.same(room.ran(*words)[2], wanted, f"words that are refused: {words}")
     for text in ("", "[]", '{"x": 1}', '{"10000A": {}}', '{"10000A": {"gtin": -1, "identification": null}}'):
         file = serials.file_of(room.records)
         file.write_text(text)
@@ -146,7 +147,7 @@ def check_lossy(checks: Checks, folder: pathlib.Path) -> None:
     room = Room(folder, records={str(at): random for at, random in enumerate(numbers)}, gear=list(numbers))
     wanted = {random: {"gtin": gtin, "identification": f"{number:016X}"} for random, (gtin, number) in numbers.items()}
     for lost in (0, 0.1, 0.3, 0.7):
-        _, said, status = room.ran("serials", "check", "--serials", "--driver", f"adapters/simulated {gear} --alike --seed 1 --lose {lost}")
+        _, said, status = room.ran("check", "--serials", "--driver", f"adapters/simulated {gear} --alike --seed 1 --lose {lost}")
         checks.say(status == 0 and "another" not in said and "unclear" not in said, f"{lost} of the answers are lost: {status} {said}")
         checks.same(serials.read(serials.file_of(room.records)), wanted, f"what was known stays: {lost} of the answers are lost")
         checks.say(lost < 0.5 or " not read" in said, f"and what was not read is said: {said}")
@@ -165,7 +166,7 @@ def check_two_readings(checks: Checks, folder: pathlib.Path) -> None:
         for at, serial in enumerate(rows):
             lit(folder / f"at-{at}.json", *([] if at == 2 and seconds is None else [(7, GEAR[1], serial)]))
         turn.write_text("0\n")
-        wrote, said, found = room.ran("serials", "check", "--serials", "--json", "--driver", command)
+        wrote, said, found = room.ran("check", "--serials", "--json", "--driver", command)
         checks.say(text in said and found == status, f"two readings: {found} {said}")
         checks.same(serials.read(serials.file_of(room.records))[GEAR[1]], kept or {"gtin": 5, "identification": f"{6:016X}"}, "what is kept of it")
         it = json.loads(wrote)["serials"][0]

@@ -86,8 +86,8 @@ HEADER, MAIN, STATUSES = "include/dali_c.h", "examples/c/main.c", "examples/c/st
 FORMAT, INSTALLER, VENDOR, ADAPTERS = "docs/FORMAT.md", "docs/INSTALLER.md", "docs/VENDOR.md", "docs/ADAPTERS.md"
 REPLAY, THREADS, FORMS = "tools/lib/replay_report.py", "tools/lib/threads_report.py", "tools/lib/script_forms.py"
 SITE, LIBRARY = "tools/lib/commission_site.py", "tools/check/c-library"
-SCHEMA, VIEWER = "docs/story.schema.json", "tools/lib/viewer.html"
-GERMAN = "tools/lib/texts/said/de.json"
+SCHEMA, VIEWER = "docs/story.schema.json", "yolgibat/viewer.html"
+GERMAN = "yolgibat/texts/said/de.json"
 LINES, MISTAKES = "crates/dali_grammar/src/reason/forms.rt", "crates/dali_grammar/src/reason/mistake.rt"
 # The inputs that do not tell what became of a frame; how it was heard is an answer.
 NOT_OF_FRAMES = "Start Survey Heard Committed CommitFailed"
@@ -135,7 +135,7 @@ PLACES = (
     Place(FORMAT, section("Reports of the bus"), "Report", "{kebab}", "Collided"),
     Place(FORMAT, line("Of the rounds only"), "Order", "`{kebab}`", "Put"),
     Place(FORMAT, section("What `show` prints"), "InitialisationState", "`{kebab}`"),
-    Place("tools/lib/help/dali_sim-audit.txt", block("Findings,", "\n\n"), "Kind", "{name}"),
+    Place("yolgibat/help/dali_sim-audit.txt", block("Findings,", "\n\n"), "Kind", "{name}"),
     Place(FORMAT, section("Refusals"), "Refusal", "`refused {code} {name}`", "NoMemory"),
     Place(FORMAT, WHOLE, "Refusal", "{code} {name}"),
     # The forms of lines, by which bad ones are explained. `Power` is `off` and `on`, and each of `Outside` is a line of its own.

@@ -13,7 +13,8 @@ import subprocess
 import time
 import typing
 
-from lib import ROOT, layouts, proving, standard
+from lib import ROOT, layouts, proving
+from yolgibat import standard
 
 BARE = ROOT / "tools/lib/bare"
 EXAMPLE = ROOT / "examples" / "c"

@@ -6,7 +6,8 @@ import pathlib
 import re
 import zlib
 
-from lib import ROOT, packing, program_files, proving, script_forms, site_script, story, targets
+from lib import ROOT, packing, program_files, proving, script_forms, site_script, targets
+from yolgibat import story
 
 WEB = ROOT / "tools/lib/web"
 MADE = ROOT / "out/web/try.html"
@@ -52,7 +53,7 @@ def page(wasm: bytes, is_proved: bool) -> bytes:
     """The page around a player."""
     version, commit = packing.versions()[0], packing.commit() + (", with changes" if packing.is_changed() else "")
     parts = {
-        "/*STYLE*/": (ROOT / "tools/lib/page.css").read_text(), "/*SITES*/": (WEB / "sites.js").read_text(), "/*PAGE*/": (WEB / "page.js").read_text(),
+        "/*STYLE*/": (ROOT / "yolgibat/page.css").read_text(), "/*SITES*/": (WEB / "sites.js").read_text(), "/*PAGE*/": (WEB / "page.js").read_text(),
         "/*WORKER*/": (WEB / "player.js").read_text(), "/*PLAYER*/": packed(wasm), "/*VIEWER*/": packed(story.VIEWER.read_bytes()),
         "/*TEXTS*/": packed(json.dumps(texts()).encode()), "/*ABOUT*/": f"Version {version}, made of commit {commit}.",
         "<!--UNPROVED-->": "" if is_proved else UNPROVED,

@@ -6,7 +6,7 @@ from collections.abc import Iterator
 
 DOCUMENTS = ("README.md", "CONTRIBUTING.md", "CHANGELOG.md", "docs/*.md", "tools/README.md")
 READMES = ("crates/*/README.md",)
-HELP = ("tools/lib/help/*.txt",)
+HELP = ("yolgibat/help/*.txt",)
 # How many words the files that match have at most, all together. If a page grows, another is to become shorter.
 MOST_WORDS = (
     (50_000, DOCUMENTS),

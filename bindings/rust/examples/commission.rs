@@ -122,6 +122,7 @@ fn main() {
     let mut next = Next::Order;
     for _ in 0..MOST_STEPS {
         let order = machine.step(input).unwrap();
+        assert_eq!(machine.progress().unwrap().gear as usize, machine.records().unwrap().enrolled().len());
         next = passes.step(input, &order).unwrap();
         input = match order.kind() {
             OrderKind::Put { address_byte, opcode_byte, .. } => {

@@ -40,7 +40,7 @@ codes! {
     /// Why a call did nothing (`enum dali_status`).
     Status {
         NotDue = 1, NoMachine = 2, BadArgument = 3, NoRecords = 4, DoesNotFit = 5, AddressTaken = 6, RandomTaken = 7, NotReserved = 8,
-        OtherVersion = 9,
+        OtherVersion = 9, Backwards = 10, Busy = 11,
     }
 }
 codes! {
@@ -60,12 +60,16 @@ codes! {
     Due { Start = 0, Bus = 1, Store = 2, Nothing = 3, }
 }
 codes! {
+    /// What a machine does (`enum dali_phase`).
+    Phase { NotStarted = 0, Asking = 1, Searching = 2, Programming = 3, Ending = 4, Over = 5, }
+}
+codes! {
     /// What is to be done after a step (`enum dali_next`).
     Next { Order = 0, Run = 1, Ready = 2, Ask = 3, Ended = 4, }
 }
 codes! {
-    /// What a receiver of edges tells (`enum dali_frame_kind`).
-    FrameKind { NoFrame = 0, ForwardFrame = 1, BackwardFrame = 2, DeviceFrame = 3, DamagedFrame = 4, }
+    /// What a receiver of edges tells, and a port (`enum dali_frame_kind`).
+    FrameKind { NoFrame = 0, ForwardFrame = 1, BackwardFrame = 2, DeviceFrame = 3, DamagedFrame = 4, NoPower = 5, }
 }
 
 fn done(status: u8) -> Result<(), Status> {
@@ -193,6 +197,18 @@ impl Machine {
         made(|order| unsafe { sys::dali_machine_go(&mut self.0, code, byte, order) }).map(Order)
     }
 
+    /// The same, but ends the run at the next moment at which nothing is outstanding.
+    pub fn stop(&mut self, input: Input) -> Result<Order, Status> {
+        let (code, byte) = input.code();
+        made(|order| unsafe { sys::dali_machine_stop(&mut self.0, code, byte, order) }).map(Order)
+    }
+
+    /// How far it is.
+    pub fn progress(&self) -> Result<Progress, Status> {
+        let it: sys::dali_progress = made(|it| unsafe { sys::dali_machine_progress(&self.0, it) })?;
+        Ok(Progress { phase: Phase::of(it.phase), short_address: (it.short_address < 64).then_some(it.short_address), gear: it.gear })
+    }
+
     /// What it waits for.
     pub fn due(&self) -> Result<Due, Status> {
         made(|it| unsafe { sys::dali_machine_due(&self.0, it) }).map(Due::of)
@@ -207,6 +223,15 @@ impl Machine {
     pub fn records(&self) -> Result<Records, Status> {
         made(|it| unsafe { sys::dali_machine_records(&self.0, it) }).map(Records)
     }
+}
+
+/// How far a machine is: the short address that it is about, and how many gear are enrolled.
+#[derive(Clone, Copy, Debug, PartialEq, Eq)]
+#[allow(missing_docs)]
+pub struct Progress {
+    pub phase: Phase,
+    pub short_address: Option<u8>,
+    pub gear: u8,
 }
 
 /// The runs of a controller, one machine after the other.

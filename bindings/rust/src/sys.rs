@@ -1,16 +1,17 @@
-//! The structs and calls of `include/dali_c.h`, by its names. All structs are bytes, without a gap.
+//! The structs and calls of `include/dali_c.h`, by its names. All structs are bytes, without a gap, but those of a port.
 #![allow(non_camel_case_types, missing_docs)]
 
 macro_rules! structs {
-    ($($name:ident $size:literal { $($field:ident: $kind:ty,)* })*) => {$(
+    ($align:literal: $($name:ident $size:literal { $($field:ident: $kind:ty,)* })*) => {$(
         #[repr(C)]
         #[derive(Clone, Copy, PartialEq, Eq)]
         pub struct $name { $(pub $field: $kind,)* }
-        const _: () = assert!(core::mem::size_of::<$name>() == $size && core::mem::align_of::<$name>() == 1);
+        const _: () = assert!(core::mem::size_of::<$name>() == $size && core::mem::align_of::<$name>() == $align);
     )*};
 }
 
 structs! {
+    1:
     dali_random 3 { high: u8, middle: u8, low: u8, }
     dali_pair 4 { short_address: u8, random_address: dali_random, }
     dali_record 5 { kind: u8, pair: dali_pair, }
@@ -21,12 +22,23 @@ structs! {
     }
     dali_machine 640 { state: [u8; 124], records: dali_records, }
     dali_table 257 { count: u8, gear: [dali_pair; 64], }
+    dali_progress 3 { phase: u8, short_address: u8, gear: u8, }
     dali_passes 3 { quiet: u8, has_committed: u8, has_heard: u8, }
     dali_levels 40 { is_low: [u8; 40], }
     dali_receiver 10 { bytes: [u8; 10], }
     dali_told 8 { kind: u8, bytes: [u8; 3], lasted: [u8; 4], }
     dali_window 16 { bytes: [u8; 16], }
     dali_heard 3 { is_over: u8, input: u8, byte: u8, }
+}
+
+structs! {
+    8:
+    dali_port 112 { words: [u64; 14], }
+}
+
+structs! {
+    4:
+    dali_event 16 { at: u32, is_low: u8, next: u8, input: u8, byte: u8, read: dali_told, }
 }
 
 extern "C" {
@@ -41,6 +53,8 @@ extern "C" {
     pub fn dali_machine_last(machine: *const dali_machine, order: *mut dali_order) -> u8;
     pub fn dali_machine_records(machine: *const dali_machine, records: *mut dali_records) -> u8;
     pub fn dali_machine_table(machine: *const dali_machine, table: *mut dali_table) -> u8;
+    pub fn dali_machine_progress(machine: *const dali_machine, progress: *mut dali_progress) -> u8;
+    pub fn dali_machine_stop(machine: *mut dali_machine, input: u8, byte: u8, order: *mut dali_order) -> u8;
     pub fn dali_passes_new(passes: *mut dali_passes) -> u8;
     pub fn dali_passes_step(passes: *mut dali_passes, input: u8, order: *const dali_order, next: *mut u8) -> u8;
     pub fn dali_levels_new(levels: *mut dali_levels, address_byte: u8, opcode_byte: u8) -> u8;
@@ -50,4 +64,9 @@ extern "C" {
     pub fn dali_receiver_new(receiver: *mut dali_receiver) -> u8;
     pub fn dali_receiver_edge(receiver: *mut dali_receiver, is_low: u8, micros: u32, told: *mut dali_told) -> u8;
     pub fn dali_receiver_time(receiver: *mut dali_receiver, micros: u32, told: *mut dali_told) -> u8;
+    pub fn dali_port_new(port: *mut dali_port, is_low: u8, now: u32, event: *mut dali_event) -> u8;
+    pub fn dali_port_send(port: *mut dali_port, order: *const dali_order, drawn: u32, now: u32, event: *mut dali_event) -> u8;
+    pub fn dali_port_edge(port: *mut dali_port, is_low: u8, now: u32, event: *mut dali_event) -> u8;
+    pub fn dali_port_lost(port: *mut dali_port, is_low: u8, now: u32, event: *mut dali_event) -> u8;
+    pub fn dali_port_timer(port: *mut dali_port, now: u32, event: *mut dali_event) -> u8;
 }

@@ -53,6 +53,23 @@ addresses (Other f) = false
 abbrev pub is_addressing : Forward → Bool
 is_addressing f = addresses (command_of f)
 
+-- a byte of the search address
+abbrev pub is_search : Command → Bool
+is_search (SearchHigh byte) = true
+is_search (SearchMiddle byte) = true
+is_search (SearchLow byte) = true
+is_search Terminate = false
+is_search (Initialise target) = false
+is_search Randomise = false
+is_search Compare = false
+is_search Withdraw = false
+is_search (Program a) = false
+is_search (Verify a) = false
+is_search QueryShort = false
+is_search (RandomByte a part) = false
+is_search (Arc f) = false
+is_search (Other f) = false
+
 -- a frame for gear in an initialisation alone (IEC 62386-102:2014, special commands)
 abbrev pub for_initialised : Command → Bool
 for_initialised Randomise = true
@@ -160,6 +177,11 @@ names_addressed All = true
 names_addressed (Addressed a) = true
 names_addressed Unaddressed = false
 
+abbrev pub is_all : Target → Bool
+is_all All = true
+is_all (Addressed a) = false
+is_all Unaddressed = false
+
 abbrev pub begins : Item → Begun
 begins x = record { at = x.at; until = x.until; is_told = false }
 
@@ -169,6 +191,7 @@ begun_by target again second x b = record b {
   begun = if second then Some (begins x) else b.begun;
   is_closed = b.is_closed && not again;
   may_redraw = b.may_redraw || (second && names_addressed target);
+  takes_all = b.takes_all || (second && is_all target);
 }
 
 abbrev pub drawn_by : Bool → Item → Bus → Bus
@@ -189,9 +212,13 @@ searched_by Low byte s = record s { low = Some byte }
 abbrev pub searches : Part → ℕ → Bus → Bus
 searches part byte b = record b { search = searched_by part byte b.search }
 
+-- the byte that SET SHORT ADDRESS stores (102, DTR0)
+abbrev pub dtr0_after : Forward → Option ℕ → Option ℕ
+dtr0_after f before = if f.address_byte == 0xA3 then Some f.opcode_byte else before
+
 abbrev pub sent_by : Command → Bool → Bool → Item → Answer → Bus → Bus
 sent_by Terminate again second x heard b =
-    record b { begun = None; is_closed = true; may_redraw = false }
+    record b { begun = None; is_closed = true; may_redraw = false; takes_all = false }
 sent_by (Initialise target) again second x heard b = begun_by target again second x b
 sent_by Randomise again second x heard b = drawn_by second x b
 sent_by Compare again second x heard b = heard_by heard b
@@ -206,18 +233,25 @@ sent_by QueryShort again second x heard b = heard_by heard b
 sent_by (RandomByte a part) again second x heard b =
     record b { spelled = byte_heard a part heard b.spelled }
 sent_by (Arc f) again second x heard b = b
-sent_by (Other f) again second x heard b = b
+sent_by (Other f) again second x heard b = record b { dtr0 = dtr0_after f b.dtr0 }
 
--- and what every forward frame changes: after an addressing command none is awaited any more
+-- and what every forward frame changes: after an addressing command none is awaited any more, and
+-- after one that is no byte of the search address no query is
 abbrev pub unless_addressing : Forward → Option ℕ → Option ℕ
 unless_addressing f time = if is_addressing f then None else time
+
+abbrev pub acts : Command → Bool
+acts c = addresses c && not (is_search c)
+
+abbrev pub unless_acting : Command → Option ℕ → Option ℕ
+unless_acting c time = if acts c then None else time
 
 abbrev pub passed : Item → Forward → Bus → Bus
 passed x f b = record b {
   half = half_after x f b.half;
   begun = begun_after x f b.begun;
   drawn = unless_addressing f b.drawn;
-  given = unless_addressing f b.given;
+  given = unless_acting (command_of f) b.given;
 }
 
 abbrev pub bus_at_first : Bus
@@ -232,6 +266,8 @@ bus_at_first = record {
   crowded = None;
   spelled = spelled.Nothing;
   may_redraw = true;
+  takes_all = false;
+  dtr0 = None;
 }
 
 -- THE BUS AFTER AN ITEM. A frame for other devices ends a half pair; it is not known what a damaged

@@ -1,4 +1,4 @@
-use Rattle.std.specs.Prelude.{ℕ, ◌-◌, Bool, true, false, ◌&&◌, ◌||◌, not, ◌==◌, nat_lt, nat_le}
+use Rattle.std.specs.Prelude.{ℕ, ◌-◌, Bool, true, false, ◌&&◌, ◌||◌, not, ◌==◌, nat_lt}
 use Rattle.std.specs.Prelude.{codes, is_some}
 use Rattle.std.specs.Prelude.{Option, Some, None, if◌then◌else◌, List, [], ◌∷◌, ◌++◌}
 use Rattle.std.specs.Prelude.{option_map, option_to_list}
@@ -13,7 +13,7 @@ use Rattle.dali_special.specs.declared.command.Command.TheVariants.{SearchHigh, 
 use Rattle.dali_special.specs.declared.command.Command.TheVariants.{SearchLow, Program, Verify}
 use Rattle.dali_special.specs.declared.command.Command.TheVariants.{QueryShort, RandomByte}
 use Rattle.dali_special.specs.declared.command.Command.TheVariants.{Arc, Other}
-use Rattle.dali_special.specs.Command.{command_of, is_question}
+use Rattle.dali_special.specs.Command.{command_of, is_question, MASK}
 use Rattle.dali_capture.specs.declared.item.Item.{Item}
 use Rattle.dali_audit.specs.declared.seen.Seen.{Seen}
 use Rattle.dali_audit.specs.declared.seen.Seen.TheVariants as seen
@@ -28,11 +28,12 @@ use Rattle.dali_audit.specs.declared.findings.Kind.TheVariants as kind
 use Rattle.dali_audit.specs.declared.findings.Finding.{Finding}
 use Rattle.dali_audit.specs.declared.telling.Known.{Known}
 use Rattle.dali_audit.specs.Seen.{seen_of, is_silence}
-use Rattle.dali_audit.specs.Bus.{same_frame, addresses, is_addressing, for_initialised, repeats}
+use Rattle.dali_audit.specs.Bus.{same_frame, acts, is_addressing, for_initialised, repeats}
 use Rattle.dali_audit.specs.Bus.{late_by, is_over, is_crowded, number, same_number, bus_after}
 use Rattle.dali_audit.specs.Bus.{bus_at_first}
 use Rattle.dali_audit.specs.Holders.{change_of, heard_of, is_other, holder_at, is_heard}
 use Rattle.dali_audit.specs.Holders.{was_confirmed, is_confirmed, table_after, table_at_first}
+use Rattle.dali_audit.specs.Holders.{is_somebody}
 
 -- THE NAMES OF THE FINDINGS. They never change.
 abbrev pub kind_name : Kind → List ℕ
@@ -52,6 +53,10 @@ kind_name kind.AddressTaken = codes "address-taken"
 kind_name kind.AddressMoved = codes "address-moved"
 kind_name kind.TwoRandomAddresses = codes "two-random-addresses"
 kind_name kind.TwoShortAddresses = codes "two-short-addresses"
+kind_name kind.Redrawn = codes "redrawn"
+kind_name kind.NotAnAddress = codes "not-an-address"
+kind_name kind.ResetOfAll = codes "reset-of-all"
+kind_name kind.SetForAll = codes "set-for-all"
 kind_name kind.NotTerminated = codes "not-terminated"
 
 abbrev pub kinds : List Kind
@@ -59,7 +64,8 @@ kinds =
     kind.DamagedFrame ∷ kind.DamagedAnswer ∷ kind.UnaskedAnswer ∷ kind.NotInitialised
     ∷ kind.SettlingTime ∷ kind.HalfPair ∷ kind.LatePair ∷ kind.EarlyFrame ∷ kind.InitialisationOver
     ∷ kind.NotQueried ∷ kind.NotFound ∷ kind.SeveralProgrammed ∷ kind.AddressTaken
-    ∷ kind.AddressMoved ∷ kind.TwoRandomAddresses ∷ kind.TwoShortAddresses ∷ kind.NotTerminated ∷ []
+    ∷ kind.AddressMoved ∷ kind.TwoRandomAddresses ∷ kind.TwoShortAddresses ∷ kind.Redrawn
+    ∷ kind.NotAnAddress ∷ kind.ResetOfAll ∷ kind.SetForAll ∷ kind.NotTerminated ∷ []
 
 -- THE RULES, each with the time that is told if an item breaks it.
 
@@ -159,8 +165,8 @@ initialisation_over b x seen.Stray = None
 initialisation_over b x seen.Foreign = None
 initialisation_over b x seen.Broken = None
 
--- a controller that programs a short address asks for it next, in the same transaction (this
--- project's profile)
+-- a controller that programs a short address asks for it before it does anything else; it may send
+-- the search address once more (this project's profile)
 abbrev pub asks_short : Command → Bool
 asks_short QueryShort = true
 asks_short (Verify a) = true
@@ -177,7 +183,7 @@ asks_short (Program a) = false
 asks_short (Arc f) = false
 asks_short (Other f) = false
 
--- what is for the gear at the search address begins no transaction, since it needs one
+-- what is for the gear at the search address
 abbrev pub needs_search : Command → Bool
 needs_search Compare = true
 needs_search Withdraw = true
@@ -194,25 +200,15 @@ needs_search (RandomByte a part) = false
 needs_search (Arc f) = false
 needs_search (Other f) = false
 
--- A TRANSACTION GOES ON with a frame of priority 1, which begins at most 14.7 ms after the end of
--- the frame before; a new one begins at least 16.3 ms after it, with priority 3 (101, multi-master
--- transmitter frame sequence timing). The limit lies in the middle.
-abbrev pub is_soon : Option ℕ → ℕ → Bool
-is_soon None at = false
-is_soon (Some settled) at = nat_le (at - settled) 15500
+abbrev pub unasked_by : ℕ → Command → Option ℕ
+unasked_by given c = at_where (acts c && not (asks_short c)) given
 
-abbrev pub goes_on : Bus → Item → Command → Bool
-goes_on b x c = is_soon b.settled x.at || needs_search c
+abbrev pub unasked : Option ℕ → Seen → Option ℕ
+unasked (Some given) (seen.Sent f heard) = unasked_by given (command_of f)
+unasked _ s = None
 
-abbrev pub unasked_by : ℕ → Bus → Item → Command → Option ℕ
-unasked_by given b x c = at_where (addresses c && (not (asks_short c) && goes_on b x c)) given
-
-abbrev pub unasked : Option ℕ → Bus → Item → Seen → Option ℕ
-unasked (Some given) b x (seen.Sent f heard) = unasked_by given b x (command_of f)
-unasked _ b x s = None
-
-abbrev pub not_queried : Bus → Item → Seen → Option ℕ
-not_queried b x s = unasked b.given b x s
+abbrev pub not_queried : Bus → Seen → Option ℕ
+not_queried b s = unasked b.given s
 
 -- PROGRAM SHORT ADDRESS, by what it changes: at the search address
 abbrev pub programs_at : Change → Option ℕ
@@ -295,6 +291,57 @@ two_short hs (change.Answered a) = false
 two_short hs change.Redrawn = false
 two_short hs (change.Forgotten short) = false
 
+-- once gear have short addresses, not all gear draw new random addresses: by these they are found
+-- again (this project's profile)
+abbrev pub redraws : Known → Change → Bool
+redraws k change.Redrawn = k.bus.takes_all && list_any is_somebody k.table
+redraws k change.Nothing = false
+redraws k (change.Given a r) = false
+redraws k (change.Erased r) = false
+redraws k (change.Told a r) = false
+redraws k (change.Verified a) = false
+redraws k (change.Answered a) = false
+redraws k (change.Forgotten short) = false
+
+-- PROGRAM SHORT ADDRESS has a short address in its second byte, or MASK: gear take no other one
+-- (102, PROGRAM SHORT ADDRESS), so that frame is no command of the table
+abbrev pub is_misspelled : Command → Bool
+is_misspelled (Other f) = f.address_byte == 0xB7
+is_misspelled _ = false
+
+abbrev pub not_an_address : Item → Seen → Option ℕ
+not_an_address x (seen.Sent f heard) = at_where (is_misspelled (command_of f)) x.at
+not_an_address x seen.Replied = None
+not_an_address x seen.Stray = None
+not_an_address x seen.Foreign = None
+not_an_address x seen.Broken = None
+
+-- RESET, and SET SHORT ADDRESS with a short address, go to one gear at a time (this project's
+-- profile): of all gear the one takes the random addresses, the other gives all one short address
+abbrev pub is_to_all : ℕ → Command → Bool
+is_to_all opcode (Other f) = (f.address_byte == 0xFF) && (f.opcode_byte == opcode)
+is_to_all opcode _ = false
+
+-- by MASK in DTR0 it takes the short addresses of all away
+abbrev pub erases : Option ℕ → Bool
+erases None = false
+erases (Some byte) = byte == MASK
+
+abbrev pub reset_of_all : Item → Seen → Option ℕ
+reset_of_all x (seen.Sent f heard) = at_where (is_to_all 0x20 (command_of f)) x.at
+reset_of_all x seen.Replied = None
+reset_of_all x seen.Stray = None
+reset_of_all x seen.Foreign = None
+reset_of_all x seen.Broken = None
+
+abbrev pub set_for_all : Bus → Item → Seen → Option ℕ
+set_for_all b x (seen.Sent f heard) =
+    at_where (is_to_all 0x80 (command_of f) && not (erases b.dtr0)) x.at
+set_for_all b x seen.Replied = None
+set_for_all b x seen.Stray = None
+set_for_all b x seen.Foreign = None
+set_for_all b x seen.Broken = None
+
 -- the controller that begins an initialisation ends it (102, TERMINATE): told when the capture ends
 abbrev pub begun_at : Option Begun → Option ℕ
 begun_at None = None
@@ -313,7 +360,7 @@ told_at kind.HalfPair k x s = half_pair k.bus s
 told_at kind.LatePair k x s = late_pair k.bus x s
 told_at kind.EarlyFrame k x s = early_frame k.bus x s
 told_at kind.InitialisationOver k x s = initialisation_over k.bus x s
-told_at kind.NotQueried k x s = not_queried k.bus x s
+told_at kind.NotQueried k x s = not_queried k.bus s
 told_at kind.NotFound k x s = at_where (not_found k (change_of k.bus x s)) x.at
 told_at kind.SeveralProgrammed k x s =
     at_where (several_programmed k.bus (change_of k.bus x s)) x.at
@@ -321,6 +368,10 @@ told_at kind.AddressTaken k x s = at_where (address_taken k.table (change_of k.b
 told_at kind.AddressMoved k x s = at_where (address_moved k.table (change_of k.bus x s)) x.at
 told_at kind.TwoRandomAddresses k x s = at_where (two_random k.table (change_of k.bus x s)) x.at
 told_at kind.TwoShortAddresses k x s = at_where (two_short k.table (change_of k.bus x s)) x.at
+told_at kind.Redrawn k x s = at_where (redraws k (change_of k.bus x s)) x.at
+told_at kind.NotAnAddress k x s = not_an_address x s
+told_at kind.ResetOfAll k x s = reset_of_all x s
+told_at kind.SetForAll k x s = set_for_all k.bus x s
 told_at kind.NotTerminated k x s = None
 
 -- WHAT IS TOLD OF AN ITEM: each rule that it breaks

@@ -228,6 +228,14 @@ was_confirmed r (holder.Answered own) = false
 was_confirmed r holder.Nobody = false
 was_confirmed r holder.Somebody = false
 
+-- gear has it, as far as is known
+abbrev pub is_somebody : Holder → Bool
+is_somebody holder.Nobody = false
+is_somebody holder.Somebody = true
+is_somebody (holder.Programmed r) = true
+is_somebody (holder.Answered r) = true
+is_somebody (holder.Verified r) = true
+
 -- a gear with this random address was heard under some short address
 abbrev pub is_heard : ℕ → List Holder → Bool
 is_heard r hs = list_any (λ h. same_number (heard_of h) (Some r)) hs

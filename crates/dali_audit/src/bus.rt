@@ -5,6 +5,8 @@ ghost use Rattle.dali_audit.specs.Bus.{same_frame, number, is_addressing, in_ini
 ghost use Rattle.dali_audit.specs.Bus.{completes, bus_at_first, half_after, is_over, begun_after, begins, crowd};
 ghost use Rattle.dali_audit.specs.Bus.{is_crowded, high_heard, middle_heard, byte_heard, names_addressed, begun_by};
 ghost use Rattle.dali_audit.specs.Bus.{drawn_by, heard_by, searched_by, searches, sent_by, unless_addressing, passed};
+ghost use Rattle.dali_audit.specs.Bus.{acts, unless_acting, is_all, dtr0_after};
+ghost use Rattle.dali_special.specs.Command.{command_of};
 ghost use Rattle.dali_audit.specs.Bus.{bus_heard, frame_end, bus_after};
 
 use crate::seen::Seen;
@@ -18,6 +20,9 @@ pub const PAIR: u64 = 100_000;
 
 /// How long an initialisation lasts, in µs: 15 minutes (IEC 62386-102:2014, INITIALISE).
 pub const INITIALISATION: u64 = 900_000_000;
+
+/// The address byte of the frame that sends a byte for DTR0.
+const DTR0: u8 = 0xA3;
 
 /// The bytes of the search address that were sent last; those of which the capture does not tell are `None`.
 #[derive(Clone, Copy)]
@@ -68,7 +73,7 @@ pub struct Bus {
     pub begun: Option<Begun>,
     /// Whether TERMINATE came, and since then nothing that may have begun an initialisation.
     pub is_closed: bool,
-    /// When PROGRAM SHORT ADDRESS began, if no addressing command followed yet.
+    /// When PROGRAM SHORT ADDRESS began, if no addressing command but bytes of the search address followed yet.
     pub given: Option<u64>,
     /// When the last frame was over, if what was heard last is one.
     pub settled: Option<u64>,
@@ -77,6 +82,10 @@ pub struct Bus {
     pub spelled: Spelled,
     /// Whether gear with a short address may take part in the initialisation.
     pub may_redraw: bool,
+    /// Whether all gear do, by INITIALISE.
+    pub takes_all: bool,
+    /// What was sent for DTR0 last.
+    pub dtr0: Option<u8>,
 }
 
 /// Whether two frames are equal.
@@ -104,6 +113,28 @@ pub(crate) fn is_addressing(frame: Forward) -> bool
         | Command::QueryShort
         | Command::RandomByte(..) => true,
         Command::Arc(_) | Command::Other(_) => false,
+    }
+}
+
+/// Whether a frame is a command of the table, and no byte of the search address.
+pub(crate) fn acts(frame: Forward) -> bool
+    ensures { result ≡ acts (command_of frame) }
+{
+    match Command::read(frame) {
+        Command::Terminate
+        | Command::Initialise(_)
+        | Command::Randomise
+        | Command::Compare
+        | Command::Withdraw
+        | Command::Program(_)
+        | Command::Verify(_)
+        | Command::QueryShort
+        | Command::RandomByte(..) => true,
+        Command::SearchHigh(_)
+        | Command::SearchMiddle(_)
+        | Command::SearchLow(_)
+        | Command::Arc(_)
+        | Command::Other(_) => false,
     }
 }
 
@@ -168,6 +199,15 @@ fn names_addressed(target: Target) -> bool
     }
 }
 
+fn is_all(target: Target) -> bool
+    ensures { result ≡ is_all target }
+{
+    match target {
+        Target::All => true,
+        Target::Addressed(_) | Target::Unaddressed => false,
+    }
+}
+
 fn begins(item: &Item) -> Begun
     ensures { result ≡ begins item.now }
 {
@@ -182,6 +222,12 @@ fn unless_addressing(frame: Forward, time: Option<u64>) -> Option<u64>
     ensures { result ≡ unless_addressing frame time }
 {
     if is_addressing(frame) { None } else { time }
+}
+
+fn unless_acting(frame: Forward, time: Option<u64>) -> Option<u64>
+    ensures { result ≡ unless_acting (command_of frame) time }
+{
+    if acts(frame) { None } else { time }
 }
 
 /// When a frame was over, from which on the bus settles.
@@ -240,6 +286,8 @@ impl Bus {
             crowded: None,
             spelled: Spelled::Nothing,
             may_redraw: true,
+            takes_all: false,
+            dtr0: None,
         }
     }
 
@@ -327,7 +375,7 @@ impl Bus {
             half: self.half_after(item, frame),
             begun: self.begun_after(item, frame),
             drawn: unless_addressing(frame, self.drawn),
-            given: unless_addressing(frame, self.given),
+            given: unless_acting(frame, self.given),
             ..*self
         }
     }
@@ -343,6 +391,7 @@ impl Bus {
             },
             is_closed: self.is_closed && !is_again,
             may_redraw: self.may_redraw || (is_second && names_addressed(target)),
+            takes_all: self.takes_all || (is_second && is_all(target)),
             ..*self
         }
     }
@@ -398,6 +447,17 @@ impl Bus {
         }
     }
 
+    /// What was sent for DTR0 last, with a frame that is no command of the table.
+    fn dtr0_after(&self, frame: Forward) -> Option<u8>
+        ensures { result ≡ dtr0_after frame self.now.dtr0 }
+    {
+        if frame.address_byte == DTR0 {
+            Some(frame.opcode_byte)
+        } else {
+            self.dtr0
+        }
+    }
+
     /// What each command changes.
     fn sent(
         &self,
@@ -414,6 +474,7 @@ impl Bus {
                 begun: None,
                 is_closed: true,
                 may_redraw: false,
+                takes_all: false,
                 ..*self
             },
             Command::Initialise(target) => self.initialised(target, is_again, is_second, item),
@@ -432,7 +493,11 @@ impl Bus {
                 spelled: byte_heard(short, part, answer, &self.spelled),
                 ..*self
             },
-            Command::Withdraw | Command::Verify(_) | Command::Arc(_) | Command::Other(_) => *self,
+            Command::Other(other) => Bus {
+                dtr0: self.dtr0_after(other),
+                ..*self
+            },
+            Command::Withdraw | Command::Verify(_) | Command::Arc(_) => *self,
         }
     }
 

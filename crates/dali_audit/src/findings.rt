@@ -24,7 +24,7 @@ pub enum Kind {
     EarlyFrame,
     /// A command for gear in an initialisation, more than 15 minutes after the last INITIALISE.
     InitialisationOver,
-    /// PROGRAM SHORT ADDRESS, and the next addressing command of the transaction does not ask for it.
+    /// PROGRAM SHORT ADDRESS, and the next addressing command, but for search bytes, does not ask for it.
     NotQueried,
     /// PROGRAM SHORT ADDRESS at a search address at which no gear answered.
     NotFound,
@@ -38,12 +38,20 @@ pub enum Kind {
     TwoRandomAddresses,
     /// One random address was heard under two short addresses.
     TwoShortAddresses,
+    /// RANDOMISE lets gear draw that have short addresses.
+    Redrawn,
+    /// PROGRAM SHORT ADDRESS with a byte that is no short address.
+    NotAnAddress,
+    /// RESET of all gear.
+    ResetOfAll,
+    /// SET SHORT ADDRESS to all gear.
+    SetForAll,
     /// INITIALISE, and no TERMINATE until the capture ends.
     NotTerminated,
 }
 
 /// All of them, in the order in which they are told of one item; the last one is told of the end alone.
-pub const KINDS: [Kind; 17] = [
+pub const KINDS: [Kind; 21] = [
     Kind::DamagedFrame,
     Kind::DamagedAnswer,
     Kind::UnaskedAnswer,
@@ -60,6 +68,10 @@ pub const KINDS: [Kind; 17] = [
     Kind::AddressMoved,
     Kind::TwoRandomAddresses,
     Kind::TwoShortAddresses,
+    Kind::Redrawn,
+    Kind::NotAnAddress,
+    Kind::ResetOfAll,
+    Kind::SetForAll,
     Kind::NotTerminated,
 ];
 
@@ -85,6 +97,10 @@ impl Kind {
             Kind::AddressMoved => "address-moved",
             Kind::TwoRandomAddresses => "two-random-addresses",
             Kind::TwoShortAddresses => "two-short-addresses",
+            Kind::Redrawn => "redrawn",
+            Kind::NotAnAddress => "not-an-address",
+            Kind::ResetOfAll => "reset-of-all",
+            Kind::SetForAll => "set-for-all",
             Kind::NotTerminated => "not-terminated",
         }
     }

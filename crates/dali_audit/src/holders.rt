@@ -1,6 +1,8 @@
 //! Who has which short address, as far as a capture shows.
 
 ghost use Rattle.std.specs.Prelude.{◌≡◌, map};
+ghost use Rattle.std.specs.List.{list_any};
+ghost use Rattle.dali_audit.specs.Holders.{is_somebody};
 ghost use Rattle.dali_audit.specs.Holders.{given, was_given, was_confirmed, is_confirmed, left_by, told};
 ghost use Rattle.dali_audit.specs.Holders.{passed_on, answered, verified, redrawn, renewed};
 ghost use Rattle.dali_audit.specs.Holders.{swept, short_in};
@@ -120,10 +122,10 @@ fn verify_change(short: Short, answer: Answer) -> Change
 }
 
 /// The opcode of RESET.
-const RESET: u8 = 0x20;
+pub(crate) const RESET: u8 = 0x20;
 
 /// The opcode of SET SHORT ADDRESS.
-const SET_SHORT_ADDRESS: u8 = 0x80;
+pub(crate) const SET_SHORT_ADDRESS: u8 = 0x80;
 
 /// What a frame changes that is no command of the table: RESET or SET SHORT ADDRESS to a short address, to a group or
 /// to all.
@@ -220,6 +222,17 @@ impl Holder {
         match self {
             Holder::Programmed(own) | Holder::Verified(own) => *own == random,
             Holder::Nobody | Holder::Somebody | Holder::Answered(_) => false,
+        }
+    }
+
+    /// Whether it is gear.
+    pub(crate) fn is_somebody(&self) -> bool
+        ensures { result ≡ is_somebody self.now }
+    {
+        match self {
+            Holder::Nobody => false,
+            Holder::Somebody | Holder::Programmed(_) | Holder::Answered(_) | Holder::Verified(_) =>
+                true,
         }
     }
 
@@ -408,6 +421,13 @@ impl Table {
         self.holders
             .iter()
             .any(|holder| holder.was_confirmed(random))
+    }
+
+    /// Whether gear are known to have short addresses.
+    pub(crate) fn is_held(&self) -> bool
+        ensures { result ≡ list_any is_somebody self.now }
+    {
+        self.holders.iter().any(|holder| holder.is_somebody())
     }
 
     fn sweep(&mut self, change: &Change)

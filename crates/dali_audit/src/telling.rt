@@ -3,19 +3,20 @@
 ghost use Rattle.std.specs.Prelude.{◌≡◌, ◌++◌, OnOk};
 ghost use Rattle.dali_audit.specs.Findings.{at_where, is_broken, is_stray, damaged_answer, half_pair, late_pair};
 ghost use Rattle.dali_audit.specs.Findings.{not_initialised, asks_initialised, too_close, settling_time, early_frame};
-ghost use Rattle.dali_audit.specs.Findings.{initialisation_over, asks_short, needs_search, is_soon, goes_on};
+ghost use Rattle.dali_audit.specs.Findings.{initialisation_over, asks_short, needs_search};
 ghost use Rattle.dali_audit.specs.Findings.{not_queried, unasked_by, programs_at, is_found, not_found};
 ghost use Rattle.dali_audit.specs.Findings.{several_programmed, address_taken, address_moved, not_terminated};
 ghost use Rattle.dali_audit.specs.Findings.{two_random, two_short, told_at, told_of, told_by, found_at, known_after};
-ghost use Rattle.dali_audit.specs.Findings.{breaks, known_at_first};
+ghost use Rattle.dali_audit.specs.Findings.{breaks, known_at_first, redraws, is_misspelled, not_an_address};
+ghost use Rattle.dali_audit.specs.Findings.{is_to_all, erases, reset_of_all, set_for_all};
 ghost use Rattle.dali_audit.specs.Holders.{change_of};
 ghost use Rattle.dali_special.specs.Command.{command_of};
 ghost use Rattle.dali_audit.specs.declared.findings.Kind.TheVariants as kind;
 
-use crate::bus::{Bus, in_initialisation, is_addressing, same_frame};
+use crate::bus::{Bus, acts, in_initialisation, is_addressing, same_frame};
 use crate::findings::{Finding, Kind};
 use crate::found::Found;
-use crate::holders::{Change, Table, change_of};
+use crate::holders::{Change, RESET, SET_SHORT_ADDRESS, Table, change_of};
 use crate::seen::Seen;
 use dali_capture::Item;
 use dali_frame::{Answer, Forward, Random24};
@@ -29,8 +30,14 @@ const SETTLING: u64 = 12_150;
 /// How long gear may take to draw a random address, in µs: 100 ms, less a tenth (IEC 62386-102:2014, RANDOMISE).
 const DRAW: u64 = 90_000;
 
-/// From the end of a frame to the next one of the same transaction, in µs: between priorities 1 and 3.
-const SOON: u64 = 15_500;
+/// The address byte of PROGRAM SHORT ADDRESS.
+const PROGRAM: u8 = 0xB7;
+
+/// The address byte of a frame to all gear.
+const ALL: u8 = 0xFF;
+
+/// No short address, in DTR0.
+const MASK: u8 = 0xFF;
 
 /// What a capture tells up to an item: of the bus, and of who has which short address.
 #[derive(Drop)]
@@ -202,38 +209,18 @@ fn needs_search(command: &Command) -> bool
     }
 }
 
-fn is_soon(settled: Option<u64>, at: u64) -> bool
-    ensures { result ≡ is_soon settled at }
+fn unasked_by(given: u64, frame: Forward) -> Option<u64>
+    ensures { result ≡ unasked_by given (command_of frame) }
 {
-    match settled {
-        Some(settled) => at.saturating_sub(settled) <= SOON,
-        None => false,
-    }
+    let is_asked = asks_short(&Command::read(frame));
+    at_where(acts(frame) && !is_asked, given)
 }
 
-/// Whether a frame belongs to the transaction of the one before.
-fn goes_on(bus: &Bus, item: &Item, command: &Command) -> bool
-    ensures { result ≡ goes_on bus.now item.now command.now }
-{
-    is_soon(bus.settled, item.at) || needs_search(command)
-}
-
-fn unasked_by(given: u64, bus: &Bus, item: &Item, frame: Forward) -> Option<u64>
-    ensures { result ≡ unasked_by given bus.now item.now (command_of frame) }
-{
-    let command = Command::read(frame);
-    let is_asked = asks_short(&command);
-    at_where(
-        is_addressing(frame) && !is_asked && goes_on(bus, item, &command),
-        given,
-    )
-}
-
-fn not_queried(bus: &Bus, item: &Item, seen: Seen) -> Option<u64>
-    ensures { result ≡ not_queried bus.now item.now seen }
+fn not_queried(bus: &Bus, seen: Seen) -> Option<u64>
+    ensures { result ≡ not_queried bus.now seen }
 {
     match (bus.given, seen) {
-        (Some(given), Seen::Sent(frame, _)) => unasked_by(given, bus, item, frame),
+        (Some(given), Seen::Sent(frame, _)) => unasked_by(given, frame),
         _ => None,
     }
 }
@@ -304,6 +291,66 @@ fn address_moved(table: &Table, change: &Change) -> bool
         | Change::Answered(_)
         | Change::Redrawn
         | Change::Forgotten(_) => false,
+    }
+}
+
+/// Whether it is PROGRAM SHORT ADDRESS with a byte that is no short address.
+fn is_misspelled(frame: Forward) -> bool
+    ensures { result ≡ is_misspelled (command_of frame) }
+{
+    match Command::read(frame) {
+        Command::Other(other) => other.address_byte == PROGRAM,
+        _ => false,
+    }
+}
+
+fn not_an_address(item: &Item, seen: Seen) -> Option<u64>
+    ensures { result ≡ not_an_address item.now seen }
+{
+    match seen {
+        Seen::Sent(frame, _) => at_where(is_misspelled(frame), item.at),
+        Seen::Replied | Seen::Stray | Seen::Foreign | Seen::Broken => None,
+    }
+}
+
+/// Whether it is this command to all gear.
+fn is_to_all(opcode: u8, frame: Forward) -> bool
+    ensures { result ≡ is_to_all opcode (command_of frame) }
+{
+    match Command::read(frame) {
+        Command::Other(other) => other.address_byte == ALL && other.opcode_byte == opcode,
+        _ => false,
+    }
+}
+
+/// Whether SET SHORT ADDRESS takes short addresses away.
+fn erases(dtr0: Option<u8>) -> bool
+    ensures { result ≡ erases dtr0 }
+{
+    match dtr0 {
+        Some(byte) => byte == MASK,
+        None => false,
+    }
+}
+
+fn reset_of_all(item: &Item, seen: Seen) -> Option<u64>
+    ensures { result ≡ reset_of_all item.now seen }
+{
+    match seen {
+        Seen::Sent(frame, _) => at_where(is_to_all(RESET, frame), item.at),
+        Seen::Replied | Seen::Stray | Seen::Foreign | Seen::Broken => None,
+    }
+}
+
+fn set_for_all(bus: &Bus, item: &Item, seen: Seen) -> Option<u64>
+    ensures { result ≡ set_for_all bus.now item.now seen }
+{
+    match seen {
+        Seen::Sent(frame, _) => {
+            let is_set = is_to_all(SET_SHORT_ADDRESS, frame);
+            at_where(is_set && !erases(bus.dtr0), item.at)
+        }
+        Seen::Replied | Seen::Stray | Seen::Foreign | Seen::Broken => None,
     }
 }
 
@@ -380,6 +427,22 @@ impl Known {
         }
     }
 
+    /// Whether all gear draw new random addresses, while some have short addresses.
+    fn redraws(&self, change: &Change) -> bool
+        ensures { result ≡ redraws self.now change.now }
+    {
+        match change {
+            Change::Redrawn => self.bus.takes_all && self.table.is_held(),
+            Change::Nothing
+            | Change::Given(..)
+            | Change::Erased(_)
+            | Change::Told(..)
+            | Change::Verified(_)
+            | Change::Answered(_)
+            | Change::Forgotten(_) => false,
+        }
+    }
+
     fn change(&self, item: &Item, seen: Seen) -> Change
         ensures { result ≡ change_of self.now.bus item.now seen }
     {
@@ -400,7 +463,7 @@ impl Known {
             Kind::LatePair => late_pair(&self.bus, item, seen),
             Kind::EarlyFrame => early_frame(&self.bus, item, seen),
             Kind::InitialisationOver => initialisation_over(&self.bus, item, seen),
-            Kind::NotQueried => not_queried(&self.bus, item, seen),
+            Kind::NotQueried => not_queried(&self.bus, seen),
             Kind::NotFound => {
                 let change = self.change(item, seen);
                 at_where(self.not_found(&change), item.at)
@@ -425,6 +488,13 @@ impl Known {
                 let change = self.change(item, seen);
                 at_where(two_short(&self.table, &change), item.at)
             }
+            Kind::Redrawn => {
+                let change = self.change(item, seen);
+                at_where(self.redraws(&change), item.at)
+            }
+            Kind::NotAnAddress => not_an_address(item, seen),
+            Kind::ResetOfAll => reset_of_all(item, seen),
+            Kind::SetForAll => set_for_all(&self.bus, item, seen),
             Kind::NotTerminated => None,
         }
     }

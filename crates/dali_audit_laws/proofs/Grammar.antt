@@ -15,7 +15,8 @@ use Rattle.dali_script.specs.Stages.{next_stage, hunted, doubted, queried, named
 use Rattle.dali_script.{specs.declared.block.Block.Block, specs.declared.stage.Stage.Stage, proofs.Giving.may_give_by}
 use Rattle.dali_script.proofs.Transactions.{asks_hunting, positive, middle_next, low_next, middle_same, low_same}
 use Rattle.dali_script.specs.declared.stage.Stage.TheVariants as stage
-use Rattle.dali_audit.specs.Bus.{number, repeats, completes, same_frame, addresses, begun_after, sent_by, byte_heard as spelled_on, same_place, same_number}
+use Rattle.dali_audit.specs.Bus.{number, repeats, completes, same_frame, addresses, unless_acting, begun_after, sent_by, byte_heard as spelled_on, same_place}
+use Rattle.dali_audit.specs.Bus.{same_number}
 use Rattle.dali_audit.specs.{Bus.told_apart, declared.bus.Bus.Bus, declared.bus.First.First, declared.bus.Search.Search, declared.bus.Spelled.Spelled}
 use Rattle.dali_audit.specs.declared.bus.Spelled.TheVariants as spelled
 use Rattle.dali_audit_laws.specs.{Capture.is_randomise, Capture.rest_before, Capture.item_at, Undisturbed.AwaitsMore}
@@ -112,7 +113,7 @@ passed_by c second x f b = record b {
   half = half_by c second x f b.half;
   begun = begun_after x f b.begun;
   drawn = if addresses c then None else b.drawn;
-  given = if addresses c then None else b.given;
+  given = unless_acting c b.given;
 }
 
 abbrev pub bus_by : Command → Bool → Bool → Item → Forward → Answer → Bus → Bus
@@ -329,16 +330,16 @@ module _ (Q P : Type 0) (F G : SearchAddress → Type 0) (L : SearchAddress → 
       (subst (λ s. Goes s (RandomByte a Low)) (sym (low_next a bytes h))
       (plain_fits (stage.Spelled a (number_heard bytes h)) (RandomByte a Low) tt refl refl refl))
 
-  hunted_fits : (r : SearchAddress) (last : Option Answer) (left : ℕ) (c : Command) → Follows b xs (stage.Hunted r last left) c
+  hunted_fits : (r : SearchAddress) (last : Option Answer) (left : ℕ) (c : Command) → Follows b xs (stage.Hunted r last left) c → bus.given ≡ None
       → Goes (next_stage (stage.Hunted r last left) c h) c
-  hunted_fits r last left c on = rw (positive left asks.0) (asked c asks.1) where
+  hunted_fits r last left c on none = rw (positive left asks.0) (asked c asks.1) where
     asks : (0 < left) × (is_asking c ≡ true)
     asks = asks_hunting r last left c on.leads_on
 
     asked : (c : Command) → is_asking c ≡ true → Goes (unwrap_or (hunted r (left - 1) c h) stage.Over) c
-    asked (SearchHigh high) asks = plain_fits (stage.Hunted _ None (left - 1)) (SearchHigh high) tt refl refl refl
-    asked (SearchMiddle middle) asks = plain_fits (stage.Hunted _ None (left - 1)) (SearchMiddle middle) tt refl refl refl
-    asked (SearchLow low) asks = plain_fits (stage.Hunted _ None (left - 1)) (SearchLow low) tt refl refl refl
+    asked (SearchHigh high) asks = plain_fits (stage.Hunted _ None (left - 1)) (SearchHigh high) tt refl refl none
+    asked (SearchMiddle middle) asks = plain_fits (stage.Hunted _ None (left - 1)) (SearchMiddle middle) tt refl refl none
+    asked (SearchLow low) asks = plain_fits (stage.Hunted _ None (left - 1)) (SearchLow low) tt refl refl none
     asked Compare asks = plain_fits (stage.Hunted _ (Some h) (left - 1)) Compare tt refl refl refl
     asked _ asks = absurd (cc)
 
@@ -378,7 +379,7 @@ module _ (Q P : Type 0) (F G : SearchAddress → Type 0) (L : SearchAddress → 
         reserved = tt;
       }
   fits_step stage.Free (SearchHigh high) on e two late quiet answering ends k =
-      record { half = refl; drawn = refl; given = refl; search = refl; crowded = tt; spelled = tt; redraw = tt; quieted = tt; answered = tt; reserved = tt }
+      record { half = refl; drawn = refl; given = k.given; search = refl; crowded = tt; spelled = tt; redraw = tt; quieted = tt; answered = tt; reserved = tt }
   fits_step stage.Free (RandomByte a High) on e two late quiet answering ends k =
       record {
         half = refl;
@@ -474,18 +475,41 @@ module _ (Q P : Type 0) (F G : SearchAddress → Type 0) (L : SearchAddress → 
         reserved = tt;
       }
   fits_step stage.Initialised (SearchHigh high) on e two late quiet answering ends k =
-      record { half = refl; drawn = refl; given = refl; search = tt; crowded = tt; spelled = tt; redraw = k.redraw; quieted = tt; answered = tt; reserved = tt }
-  fits_step (stage.WokenHigh high) (SearchLow low) on e two late quiet answering ends k = plain_fits (stage.WokenLow high low) (SearchLow low) tt refl refl refl
+      record {
+        half = refl;
+        drawn = refl;
+        given = k.given;
+        search = tt;
+        crowded = tt;
+        spelled = tt;
+        redraw = k.redraw;
+        quieted = tt;
+        answered = tt;
+        reserved = tt;
+      }
+  fits_step (stage.WokenHigh high) (SearchLow low) on e two late quiet answering ends k =
+      plain_fits (stage.WokenLow high low) (SearchLow low) tt refl refl k.given
   fits_step (stage.WokenHigh high) (SearchMiddle middle) on e two late quiet answering ends k =
-      record { half = refl; drawn = refl; given = refl; search = tt; crowded = tt; spelled = tt; redraw = k.redraw; quieted = tt; answered = tt; reserved = tt }
+      record {
+        half = refl;
+        drawn = refl;
+        given = k.given;
+        search = tt;
+        crowded = tt;
+        spelled = tt;
+        redraw = k.redraw;
+        quieted = tt;
+        answered = tt;
+        reserved = tt;
+      }
   fits_step (stage.WokenLow high low) (SearchMiddle middle) on e two late quiet answering ends k =
-      plain_fits (stage.Hunted _ None _) (SearchMiddle middle) tt refl refl refl
+      plain_fits (stage.Hunted _ None _) (SearchMiddle middle) tt refl refl k.given
   fits_step (stage.WokenMiddle high middle) Compare on e two late quiet answering ends k = doubted_fits k.redraw
   fits_step (stage.HighSent high) (SearchMiddle middle) on e two late quiet answering ends k =
       record {
         half = refl;
         drawn = refl;
-        given = refl;
+        given = k.given;
         search = (k.search, refl);
         crowded = tt;
         spelled = tt;
@@ -494,15 +518,16 @@ module _ (Q P : Type 0) (F G : SearchAddress → Type 0) (L : SearchAddress → 
         answered = tt;
         reserved = tt;
       }
-  fits_step (stage.HighSent high) (SearchLow low) on e two late quiet answering ends k = plain_fits (stage.LowSent high low) (SearchLow low) tt refl refl refl
+  fits_step (stage.HighSent high) (SearchLow low) on e two late quiet answering ends k =
+      plain_fits (stage.LowSent high low) (SearchLow low) tt refl refl k.given
   fits_step (stage.LowSent high low) (SearchMiddle middle) on e two late quiet answering ends k =
-      plain_fits (stage.Hunted _ None _) (SearchMiddle middle) tt refl refl refl
-  fits_step (stage.Hunted r last left) c on e two late quiet answering ends k = hunted_fits r last left c on
+      plain_fits (stage.Hunted _ None _) (SearchMiddle middle) tt refl refl k.given
+  fits_step (stage.Hunted r last left) c on e two late quiet answering ends k = hunted_fits r last left c on k.given
   fits_step (stage.MiddleSent high middle) (SearchLow low) on e two late quiet answering ends k =
       record {
         half = refl;
         drawn = refl;
-        given = refl;
+        given = k.given;
         search = (k.search.0, k.search.1, refl);
         crowded = tt;
         spelled = tt;

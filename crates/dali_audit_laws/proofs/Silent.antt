@@ -3,14 +3,16 @@ use Rattle.std.proofs.lemmas.Bool.Decides.{nat_tests}
 use Rattle.dali_frame.specs.declared.frames.Answer.{Answer, TheVariants.Silence, TheVariants.Byte, TheVariants.Damaged}
 use Rattle.dali_frame.specs.declared.{frames.Forward.Forward, numbers.SearchAddress.SearchAddress}
 use Rattle.dali_special.specs.{Command.command_of, declared.command.Command.Command}
-use Rattle.dali_special.specs.declared.command.Command.TheVariants.{Terminate, SearchHigh, Randomise, QueryShort, RandomByte, Arc}
+use Rattle.dali_special.specs.declared.command.Command.TheVariants.{Terminate, SearchHigh, Randomise, QueryShort, RandomByte, Arc, Other}
 use Rattle.dali_special.specs.declared.command.Part.TheVariants.{High}
 use Rattle.dali_capture.specs.declared.item.Item.{Item}
 use Rattle.dali_script.specs.{Records.Assignment, Stages.Follows, declared.block.Block.Block, declared.stage.Stage.Stage}
 use Rattle.dali_script.specs.declared.stage.Stage.TheVariants as stage
+use Rattle.dali_script.proofs.Transactions.{asks_hunting}
 use Rattle.dali_audit.specs.{Bus.is_addressing, Bus.in_initialisation, Bus.repeats, Bus.late_by, Bus.is_over, Findings.asks_one, Findings.damaged_answer}
 use Rattle.dali_audit.specs.Findings.{broken_pair, half_pair, late_pair, too_early, too_close, early_frame, initialisation_over, unasked, not_queried}
-use Rattle.dali_audit.specs.{Findings.settling_time, Findings.at_where, declared.bus.Begun.Begun, declared.bus.Bus.Bus, declared.bus.First.First}
+use Rattle.dali_audit.specs.{Findings.settling_time, Findings.at_where, Findings.is_misspelled, Findings.is_to_all, declared.bus.Begun.Begun}
+use Rattle.dali_audit.specs.{declared.bus.Bus.Bus, declared.bus.First.First}
 use Rattle.dali_audit.specs.declared.seen.Seen.TheVariants as seen
 use Rattle.dali_audit_laws.specs.Capture.{rest_before}
 use Rattle.dali_audit_laws.proofs.Grammar.{Drawn, IsRested, Given, Fits, Paired, alone, twice, paired, item_of, same_frames}
@@ -67,15 +69,28 @@ in_time (Some y) at f k = rw (short, never (in_initialisation f), never (not y.i
   short : nat_lt 900000000 (at - y.until) ≡ false
   short = let within : at ≤ y.until + 900000000 = k y refl in grind (arith, nat_tests)
 
-asked_next : (given : Option ℕ) (bus : Bus) (x : Item) (f : Forward) (h : Answer) → command_of f ≡ QueryShort → unasked given bus x (seen.Sent f h) ≡ None
-asked_next None bus x f h e = refl
-asked_next (Some t) bus x f h e = rw e refl
+asked_next : (given : Option ℕ) (f : Forward) (h : Answer) → command_of f ≡ QueryShort → unasked given (seen.Sent f h) ≡ None
+asked_next None f h e = refl
+asked_next (Some t) f h e = rw e refl
 
-pub asked : (b : Block) (xs : List Assignment) (s : Stage) (c : Command) (given : Option ℕ) (bus : Bus) (x : Item) (f : Forward) (h : Answer)
-    → Follows b xs s c → command_of f ≡ c → Given s given → unasked given bus x (seen.Sent f h) ≡ None
-asked b xs (stage.Programmed r a) QueryShort given bus x f h on e k = asked_next given bus x f h e
-asked b xs (stage.Programmed r a) _ given bus x f h on e k = absurd (let none = on.leads_on in cc)
-asked b xs _ c given bus x f h on e k = rw k refl
+pub asked : (b : Block) (xs : List Assignment) (s : Stage) (c : Command) (given : Option ℕ) (f : Forward) (h : Answer)
+    → Follows b xs s c → command_of f ≡ c → Given s given → unasked given (seen.Sent f h) ≡ None
+asked b xs (stage.Programmed r a) QueryShort given f h on e k = asked_next given f h e
+asked b xs (stage.Programmed r a) _ given f h on e k = absurd (let none = on.leads_on in cc)
+asked b xs _ c given f h on e k = rw k refl
+
+-- no frame of a script is one that is no command of the table
+never_other : (b : Block) (xs : List Assignment) (s : Stage) (g : Forward) → Follows b xs s (Other g) → ⊥
+never_other b xs (stage.Hunted r last left) g on = let asks = asks_hunting r last left (Other g) on.leads_on in let no = asks.1 in cc
+never_other b xs _ g on = let none = on.leads_on in cc
+
+pub spelled_well : (b : Block) (xs : List Assignment) (s : Stage) (c : Command) → Follows b xs s c → is_misspelled c ≡ false
+spelled_well b xs s (Other g) on = absurd (never_other b xs s g on)
+spelled_well b xs s _ on = refl
+
+pub to_one : (opcode : ℕ) (b : Block) (xs : List Assignment) (s : Stage) (c : Command) → Follows b xs s c → is_to_all opcode c ≡ false
+to_one opcode b xs s (Other g) on = absurd (never_other b xs s g on)
+to_one opcode b xs s _ on = refl
 
 -- the bus has settled
 settled_by : (settled : Option ℕ) (now : ℕ) (drew : Bool) (c : Command) (f : Forward) → ((t : ℕ) → settled ≡ Some t → t ≤ now)
@@ -110,8 +125,8 @@ module _ (b : Block) (xs : List Assignment) (s : Stage) (c : Command) (now : ℕ
   pub not_over : is_over bus.begun (item_of now drew c f).at f ≡ false → initialisation_over bus (item_of now drew c f) (seen.Sent f h) ≡ None
   not_over short = rw short refl
 
-  pub queried_next : not_queried bus (item_of now drew c f) (seen.Sent f h) ≡ None
-  queried_next = asked b xs s c bus.given bus (item_of now drew c f) f h on e k.given
+  pub queried_next : not_queried bus (seen.Sent f h) ≡ None
+  queried_next = asked b xs s c bus.given f h on e k.given
 
   pub settled_before : ((t : ℕ) → bus.settled ≡ Some t → t ≤ now) → settling_time bus (item_of now drew c f) (seen.Sent f h) ≡ None
   settled_before before = settled_by bus.settled now drew c f before

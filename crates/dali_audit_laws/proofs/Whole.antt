@@ -20,7 +20,8 @@ use Rattle.dali_script.{specs.declared.stage.Stage.Stage, specs.declared.trace.E
 use Rattle.dali_script.proofs.Transactions.{self, stage_more, stage_none, program_at, initialise_at}
 use Rattle.dali_script.specs.declared.stage.Stage.TheVariants as stage
 use Rattle.dali_audit.specs.{Bus.number, Bus.is_over, Bus.completes, Bus.repeats, Bus.frame_end, Findings.told_of, Findings.kinds, Findings.known_after}
-use Rattle.dali_audit.specs.Findings.{findings_from, known_from, first_of, address_taken, address_moved, two_random, two_short, broken_pair, too_early, unasked}
+use Rattle.dali_audit.specs.Findings.{findings_from, known_from, first_of, address_taken, address_moved, two_random, two_short, redraws, broken_pair}
+use Rattle.dali_audit.specs.Findings.{too_early, unasked}
 use Rattle.dali_audit.specs.{Findings.several_programmed, Findings.not_found, Findings.is_among, Findings.asks_one, Holders.change_of, Holders.table_after}
 use Rattle.dali_audit.specs.{Holders.short_in, Seen.awaits, Seen.seen_of, Seen.answer_after, Seen.in_window, Seen.may_be_answered}
 use Rattle.dali_audit.specs.declared.{bus.Begun.Begun, bus.Bus.Bus, bus.First.First, holders.Change.Change, telling.Known.Known}
@@ -40,7 +41,8 @@ use Rattle.dali_audit_laws.proofs.Changes.{apart, one_answers, IsTrueChange, tru
 use Rattle.dali_audit_laws.proofs.Grammar.{Fits, Paired, alone, twice, paired, completed, repeated, item_of, fits_step, leave, ended, go_on}
 use Rattle.dali_audit_laws.proofs.Idle.{AllIdle, NoneHalf, idle_taken, half_taken, initialised, closed_from, begun_from}
 use Rattle.dali_audit_laws.proofs.Replies.{somebody, silent, query_replies, found_here}
-use Rattle.dali_audit_laws.proofs.Silent.{clear, in_time, no_half_pair, no_late_pair, no_early_frame, not_over, queried_next, settled_before}
+use Rattle.dali_audit_laws.proofs.Silent.{clear, in_time, no_half_pair, no_late_pair, no_early_frame, not_over, queried_next, settled_before, spelled_well}
+use Rattle.dali_audit_laws.proofs.Silent.{to_one}
 use Rattle.dali_audit_laws.proofs.Standing.{SameGear, one_random, one_short, table_nothing, table_told, table_answered, length_after}
 use Rattle.dali_audit_laws.proofs.Standing.{free, unmoved, table_given}
 
@@ -82,6 +84,7 @@ pub record IsClean (k : Known) (ht : List Gear) (ch : Change) : Type 0 where
   pub moved : address_moved k.table ch ≡ false
   pub one_random : two_random k.table ch ≡ false
   pub one_short : two_short k.table ch ≡ false
+  pub redrawn : redraws k ch ≡ false
   pub table : IsTableOf ht (table_after ch k.table)
 
 never : (m : Bool) → (m && false) ≡ false
@@ -257,6 +260,7 @@ module _ (p : Plan) (plan : IsPlan p) (w : World) (c : ℕ) (f : Forward) (h : A
     moved = refl;
     one_random = refl;
     one_short = refl;
+    redrawn = refl;
     table = table_nothing w.gear k.table agrees.table (apart p plan w agrees.holds) v.gear same;
   }
   clean_by (change.Told a r) same is = record {
@@ -266,6 +270,7 @@ module _ (p : Plan) (plan : IsPlan p) (w : World) (c : ℕ) (f : Forward) (h : A
     moved = refl;
     one_random = one_random w.gear k.table agrees.table (apart p plan w agrees.holds) a r is;
     one_short = one_short w.gear k.table agrees.table (apart p plan w agrees.holds) a r is;
+    redrawn = refl;
     table = table_told w.gear k.table agrees.table (apart p plan w agrees.holds) v.gear a r same (small is.gear a is.has) is;
   }
   clean_by (change.Answered a) same is = record {
@@ -275,6 +280,7 @@ module _ (p : Plan) (plan : IsPlan p) (w : World) (c : ℕ) (f : Forward) (h : A
     moved = refl;
     one_random = refl;
     one_short = refl;
+    redrawn = refl;
     table = table_answered w.gear k.table agrees.table (apart p plan w agrees.holds) v.gear a is.0 same (small is.0 a is.1) is.1;
   }
   clean_by _ same is = absurd is
@@ -306,6 +312,7 @@ module _ (p : Plan) (plan : IsPlan p) (w : World) (c : ℕ) (f : Forward) (h : A
             (moved.1 ∙ one.random) (apart p plan v held) stay (λ i d h. new a is i d (from i d h));
         one_random = refl;
         one_short = refl;
+        redrawn = refl;
         table = table_given w.gear k.table agrees.table (apart p plan w agrees.holds) v.gear one.gear a (value_of r) there one.in_row none one.random has
             (moved.1 ∙ one.random) (apart p plan v held) stay (λ i d h. new a is i d (from i d h));
       } where
@@ -355,6 +362,10 @@ module _ (p : Plan) (plan : IsPlan p) (w : World) (c : ℕ) (f : Forward) (h : A
         clean.moved,
         clean.one_random,
         clean.one_short,
+        clean.redrawn,
+        spelled_well b xs s (command_of f) on,
+        to_one 0x20 b xs s (command_of f) on,
+        to_one 0x80 b xs s (command_of f) on,
       ) refl
 
   quiet_after : is_question (command_of f) ≡ false → later ≡ x.until
@@ -441,12 +452,12 @@ replied_early : (d : Option ℕ) (x : Item) → too_early d x seen.Replied ≡ N
 replied_early None x = refl
 replied_early (Some t) x = refl
 
-replied_given : (d : Option ℕ) (b : Bus) (x : Item) → unasked d b x seen.Replied ≡ None
-replied_given None b x = refl
-replied_given (Some t) b x = refl
+replied_given : (d : Option ℕ) → unasked d seen.Replied ≡ None
+replied_given None = refl
+replied_given (Some t) = refl
 
 replied_tells : (k : Known) (x : Item) → told_of k x seen.Replied kinds ≡ []
-replied_tells k x = rw (replied_pair k.bus.half, replied_early k.bus.drawn x, replied_given k.bus.given k.bus x) refl
+replied_tells k x = rw (replied_pair k.bus.half, replied_early k.bus.drawn x, replied_given k.bus.given) refl
 
 replied_agrees : (p : Plan) (plan : IsPlan p) (w : World) (now : ℕ) (drew : Bool) (since : Option ℕ) (k : Known) (x : Item) → x.until ≤ now
     → Agrees p w now drew since k

@@ -1,5 +1,6 @@
 mod Bytes
 mod Lists
 mod Machines
+mod Stops
 mod Halves
 mod Hosts

@@ -11,5 +11,8 @@ pub mod Machines
 pub mod Levels
 pub mod Receivers
 pub mod Passes
+pub mod Port
 pub mod Calls
+pub mod Stops
 pub mod Hosts
+pub mod Progress

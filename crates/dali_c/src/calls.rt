@@ -226,7 +226,7 @@ fn go_on(
 }
 
 /// A machine with these records takes an input. None if it waits for something else.
-fn step(state: &mut State, records: &mut PlainRecords, told: Input) -> Option<Order>
+pub(crate) fn step(state: &mut State, records: &mut PlainRecords, told: Input) -> Option<Order>
     requires records { AreRecords records.old }
     requires whole { IsWhole (machine_with state.old (kept_of records.old)) }
 

@@ -20,3 +20,7 @@ pub(crate) const RANDOM_TAKEN: u8 = 7;
 pub(crate) const NOT_RESERVED: u8 = 8;
 /// The struct is one of another version of the library.
 pub(crate) const OTHER_VERSION: u8 = 9;
+/// The time is before that of the last call.
+pub(crate) const BACKWARDS: u8 = 10;
+/// The last frame has not ended.
+pub(crate) const BUSY: u8 = 11;

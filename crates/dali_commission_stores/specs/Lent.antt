@@ -7,7 +7,7 @@ use Rattle.dali_script.specs.declared.records.Record.{Record}
 use Rattle.dali_script.specs.Records.{Kept}
 use Rattle.dali_commissioning.specs.Runs.{IsRead}
 use Rattle.dali_commission_said.specs.declared.failure.Failure.{Failure}
-use Rattle.dali_commission_stores.specs.Calls.{Call, Opened, Closed, Look, Has, Read}
+use Rattle.dali_commission_stores.specs.Calls.{Call, Opened, Closed, Look, Has, Read, Alone}
 use Rattle.dali_commission_stores.specs.declared.records.Seen.{Seen}
 use Rattle.dali_commission_stores.specs.Seen.{IsBeside, IsSeen}
 
@@ -67,6 +67,13 @@ IsHeld {F = F} {H = H} {Due = Due} saw names dues ends was now x y result =
     × (done : Result Due Failure)
     × dues all was at x y done
     × IfOk result (λ out. (by : H) × (due : Due) × (done ≡ Ok due) × ends by at now due out))
+
+-- ALL OTHERS ARE KEPT from acting by a name, and the actor does what it does; or they could not be
+-- kept from it, and all is as it was
+abbrev pub ActsAlone : {F Out : Type 0} → (F → Look → Type 0) → List ℕ
+    → (F → F → Result Out Failure → Type 0) → F → F → Result Out Failure → Type 0
+ActsAlone saw name acts was now result =
+    (IsErr result × (now ≡ was)) ⊎ (saw was (Alone name) × acts was now result)
 
 -- RECORDS THAT WERE SEEN ARE OPENED, for a controller with a block
 abbrev pub IsOpened : {F K : Type 0} → (K → Block) → (F → Look → Type 0) → (F → Seen → K → Type 0)

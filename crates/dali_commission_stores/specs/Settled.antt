@@ -1,10 +1,11 @@
-use Rattle.std.specs.Prelude.{◌≤◌, ◌<◌, ℕ, ◌*◌, Bool, true, false, List, Option, IfSome}
+use Rattle.std.specs.Prelude.{◌≡◌, ◌⊎◌, ◌≤◌, ◌<◌, ℕ, ◌*◌, Bool, true, false, List, Option, IfSome}
 use Rattle.dali_replacement.specs.declared.swap.Step.{Step}
 use Rattle.dali_replacement.specs.declared.swapping.Swap.{Swap}
 use Rattle.dali_replacement.specs.Swapping.{names_of}
 use Rattle.dali_commission_stores.specs.Calls.{Call, Look, Alone}
 use Rattle.dali_commission_stores.specs.Seen.{IsMoment, IsFirstJournal}
-use Rattle.dali_commission_stores.specs.Settling.{count_of, GoesOn, GoesBack}
+use Rattle.dali_commission_stores.specs.Settling.{count_of, GoesOn, GoesBack, GoesOnInPart}
+use Rattle.dali_commission_stores.specs.Settling.{GoesBackInPart}
 
 -- ITS END: by the moment at which it is, it goes on to the last moment if each journal
 -- was written, else it is taken back
@@ -21,6 +22,18 @@ IsSettled made saw swap x y false =
     × (moment < count_of swap)
     × GoesBack made swap moment x y
 
+-- what is done of that if it fails
+abbrev pub IsSettledInPart : {F : Type 0} (made began : F → F → Call → Type 0)
+    → (F → Look → Type 0) → Swap → F → F → Type 0
+IsSettledInPart made began saw swap x y =
+    (x ≡ y)
+    ⊎ ((moment : ℕ)
+    × IsMoment saw swap x moment
+    × (((count_of swap ≤ moment)
+    × ((steps : List Step)
+    × GoesOnInPart made began swap moment (4 * count_of swap) steps x y))
+    ⊎ ((moment < count_of swap) × GoesBackInPart made began swap moment x y)))
+
 -- ALL OTHERS ARE KEPT from acting by the first journal of a swap that lies there, if one does
 abbrev pub IsAlone : {F : Type 0} → (F → Look → Type 0) → Swap → F → Type 0
 IsAlone saw swap x =
@@ -36,3 +49,14 @@ IsExchanged made saw swap x y =
     × ((steps : List Step) × GoesOn made swap 0 (count_of swap) steps x z)
     × IsAlone saw swap z
     × IsSettled made saw swap z y true
+
+-- what is done of that if it fails: some journals are written; or all, and the rest in part, or it
+-- is taken back
+abbrev pub IsExchangedInPart : {F : Type 0} (made began : F → F → Call → Type 0)
+    → (F → Look → Type 0) → Swap → F → F → Type 0
+IsExchangedInPart made began saw swap x y =
+    (x ≡ y)
+    ⊎ (((steps : List Step) × GoesOnInPart made began swap 0 (count_of swap) steps x y)
+    ⊎ ((z : _)
+    × ((steps : List Step) × GoesOn made swap 0 (count_of swap) steps x z)
+    × (IsSettledInPart made began saw swap z y ⊎ IsSettled made saw swap z y false)))

@@ -36,6 +36,20 @@ IsDone made swap step x y =
     × IsNamed swap (file_of step) name
     × AreMade made (calls_of step name (number_of swap) (swap_text swap)) x y
 
+-- A STEP THAT FAILED: none of its calls was made, or some, and perhaps a part of the next one
+abbrev pub AreBegun : {F : Type 0} (made began : F → F → Call → Type 0) → List Call → F → F → Type 0
+AreBegun made began [] x y = x ≡ y
+AreBegun made began (call ∷ more) x y =
+    (x ≡ y) ⊎ (began x y call ⊎ ((z : _) × made x z call × AreBegun made began more z y))
+
+abbrev pub IsBegun : {F : Type 0} (made began : F → F → Call → Type 0) → Swap → Step → F → F
+    → Type 0
+IsBegun made began swap step x y =
+    (x ≡ y)
+    ⊎ ((name : List ℕ)
+    × IsNamed swap (file_of step) name
+    × AreBegun made began (calls_of step name (number_of swap) (swap_text swap)) x y)
+
 -- THE STEPS FROM A MOMENT ON up to another one, or to the end of the swap
 abbrev pub count_of : Swap → ℕ
 count_of swap = min (length (names_of swap)) 64
@@ -54,3 +68,20 @@ abbrev pub GoesBack : {F : Type 0} → (F → F → Call → Type 0) → Swap �
 GoesBack made swap zero x y = x ≡ y
 GoesBack made swap (suc i) x y =
     (z : _) × IsDone made swap (Forget i) x z × GoesBack made swap i z y
+
+-- WHAT IS DONE IF A STEP FAILS: all steps before it, and of that one what it came to
+abbrev pub GoesOnInPart : {F : Type 0} (made began : F → F → Call → Type 0) → Swap → ℕ → ℕ
+    → List Step → F → F → Type 0
+GoesOnInPart made began swap from to [] x y = ⊥
+GoesOnInPart made began swap from to (step ∷ more) x y =
+    (step_after (count_of swap) from ≡ Some step)
+    × (from < to)
+    × (IsBegun made began swap step x y
+    ⊎ ((z : _) × IsDone made swap step x z × GoesOnInPart made began swap (from + 1) to more z y))
+
+abbrev pub GoesBackInPart : {F : Type 0} (made began : F → F → Call → Type 0) → Swap → ℕ → F → F
+    → Type 0
+GoesBackInPart made began swap zero x y = ⊥
+GoesBackInPart made began swap (suc i) x y =
+    IsBegun made began swap (Forget i) x y
+    ⊎ ((z : _) × IsDone made swap (Forget i) x z × GoesBackInPart made began swap i z y)

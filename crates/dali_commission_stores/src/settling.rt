@@ -1,12 +1,14 @@
 //! A swap of files is brought to an end: step by step by `dali_replacement`, which says what is due at which moment.
 
-ghost use Rattle.std.specs.Prelude.{◌≡◌, false, List, IfOk, IfSome, OnOk, option_map, string_bytes};
+ghost use Rattle.std.specs.Prelude.{◌≡◌, false, List, IfOk, IfSome, OnErr, OnOk, option_map, string_bytes};
 ghost use Rattle.dali_replacement.specs.Swapping.{number_of};
 ghost use Rattle.dali_commission_stores.specs.Seen.{LiesSo, AreLying, IsMoment, IsFirstJournal, IsFound};
 ghost use Rattle.dali_replacement.specs.declared.swap.Step.{Step};
 ghost use Rattle.dali_commission_said.specs.Failures.{or_unfinished};
-ghost use Rattle.dali_commission_stores.specs.Settled.{IsSettled, IsAlone, IsExchanged};
-ghost use Rattle.dali_commission_stores.specs.Settling.{IsNamed, IsDone, GoesOn, GoesBack};
+ghost use Rattle.dali_commission_stores.specs.Settled.{IsSettled, IsSettledInPart, IsAlone, IsExchanged};
+ghost use Rattle.dali_commission_stores.specs.Settled.{IsExchangedInPart};
+ghost use Rattle.dali_commission_stores.specs.Settling.{IsNamed, IsDone, IsBegun, GoesOn, GoesBack};
+ghost use Rattle.dali_commission_stores.specs.Settling.{GoesOnInPart, GoesBackInPart};
 
 use crate::stores::{Actor, Stores};
 use arrayvec::ArrayVec;
@@ -70,7 +72,8 @@ fn moment<F: Stores>(alloc: Global, stores: &F, swap: &Swap) -> Result<Option<u3
 
 /// Does a step of a swap.
 fn does<F: Stores>(alloc: Global, stores: &mut F, swap: &Swap, step: Step) -> Result<(), Failure>
-    ensures { OnOk result (IsDone F.made swap.now step stores.old stores.new) }
+    ensures done { OnOk result (IsDone F.made swap.now step stores.old stores.new) }
+    ensures left { OnErr result (IsBegun F.made F.began swap.now step stores.old stores.new) }
 {
     match step {
         Step::Announce(number) => {
@@ -99,7 +102,9 @@ fn goes_on<F: Stores>(
     from: u32,
     to: u32,
 ) -> Result<(), Failure>
-    ensures { OnOk result ((steps : List Step) × GoesOn F.made swap.now from to steps stores.old stores.new) }
+    ensures goes_on { OnOk result ((steps : List Step) × GoesOn F.made swap.now from to steps stores.old stores.new) }
+    ensures left { OnErr result ((steps : List Step)
+        × GoesOnInPart F.made F.began swap.now from to steps stores.old stores.new) }
 {
     if from >= to {
         return Ok(());
@@ -118,7 +123,8 @@ fn goes_back<F: Stores>(
     swap: &Swap,
     from: u32,
 ) -> Result<(), Failure>
-    ensures { OnOk result (GoesBack F.made swap.now from stores.old stores.new) }
+    ensures goes_back { OnOk result (GoesBack F.made swap.now from stores.old stores.new) }
+    ensures left { OnErr result (GoesBackInPart F.made F.began swap.now from stores.old stores.new) }
 {
     if from == 0 {
         return Ok(());
@@ -133,7 +139,8 @@ fn settles<S: Voice + AllocGlobal, F: Stores>(
     stores: &mut F,
     swap: &Swap,
 ) -> Result<bool, Failure>
-    ensures { IfOk result (IsSettled F.made F.saw swap.now stores.old stores.new) }
+    ensures settled { IfOk result (IsSettled F.made F.saw swap.now stores.old stores.new) }
+    ensures left { OnErr result (IsSettledInPart F.made F.began F.saw swap.now stores.old stores.new) }
 {
     let (alloc, count) = (system.alloc(), swap.count());
     match moment(alloc, stores, swap)? {
@@ -177,7 +184,11 @@ struct Settling<'a, S> {
 impl<S: Voice + AllocGlobal, F: Stores> Actor<F> for Settling<'_, S> {
     type Out = bool;
 
-    ghost acts = { λ settling. IsSettled F.made F.saw settling.swap.now };
+    ghost use Rattle.std.specs.Prelude.{IfOk, OnErr};
+    ghost use Rattle.dali_commission_stores.specs.Settled.{IsSettled, IsSettledInPart};
+
+    ghost acts = { λ settling x y result. IfOk result (IsSettled F.made F.saw settling.swap.now x y)
+        × OnErr result (IsSettledInPart F.made F.began F.saw settling.swap.now x y) };
 
     fn act(self, stores: &mut F) -> Result<bool, Failure> {
         or_stopped(self.system, settles(self.system, stores, self.swap))
@@ -211,6 +222,7 @@ pub fn settle<S: Voice + AllocGlobal, F: Stores>(
 ) -> Result<bool, Failure>
     ensures settled { IfOk result (IsSettled F.made F.saw swap.now stores.old stores.new) }
     ensures alone { OnOk result (IsAlone F.saw swap.now stores.old) }
+    ensures left { OnErr result (IsSettledInPart F.made F.began F.saw swap.now stores.old stores.new) }
 {
     let settling = Settling { system, swap };
     match first_journal(system.alloc(), stores, swap.names())? {
@@ -225,7 +237,8 @@ pub fn exchange<S: Voice + AllocGlobal, F: Stores>(
     stores: &mut F,
     swap: &Swap,
 ) -> Result<(), Failure>
-    ensures { OnOk result (IsExchanged F.made F.saw swap.now stores.old stores.new) }
+    ensures exchanged { OnOk result (IsExchanged F.made F.saw swap.now stores.old stores.new) }
+    ensures left { OnErr result (IsExchangedInPart F.made F.began F.saw swap.now stores.old stores.new) }
 {
     let announced = goes_on(system.alloc(), stores, swap, 0, swap.count());
     or_stopped(system, announced)?;

@@ -59,15 +59,18 @@ pub trait Holder<F, D>: Drop {
 
 /// Who does something alone, in these places.
 pub trait Actor<F>: Drop {
+    ghost use Rattle.std.specs.Prelude.{Result};
+    ghost use Rattle.dali_commission_said.specs.declared.failure.Failure.{Failure};
+
     /// What comes of it.
     type Out: Drop;
 
     /// What it does: from the places before to those after it, if this came of it.
-    ghost acts: { Self → F → F → Self.Out → Type 0 };
+    ghost acts: { Self → F → F → Result Self.Out Failure → Type 0 };
 
     /// Does it.
     fn act(self, stores: &mut F) -> Result<Self::Out, Failure>
-        ensures { IfOk result (acts self stores.old stores.new) };
+        ensures { acts self stores.old stores.new result };
 }
 
 /// Places where records are kept.
@@ -78,9 +81,9 @@ pub trait Actor<F>: Drop {
 pub trait Stores: Sized {
     ghost use Rattle.dali_script.specs.Records.{Kept};
     ghost use Rattle.dali_commission_stores.specs.Calls.{Call, Wrote, Renamed, Likened, Removed, Opened, Closed};
-    ghost use Rattle.dali_commission_stores.specs.Calls.{Look, Has, Text, Lies, Alone};
+    ghost use Rattle.dali_commission_stores.specs.Calls.{Look, Has, Text, Lies};
     ghost use Rattle.std.specs.Prelude.{false};
-    ghost use Rattle.dali_commission_stores.specs.Lent.{Copies, IsHeld};
+    ghost use Rattle.dali_commission_stores.specs.Lent.{Copies, IsHeld, ActsAlone};
     ghost use Rattle.dali_commission_stores.specs.declared.records.Seen.{Seen};
 
     /// Records that are open.
@@ -141,8 +144,7 @@ pub trait Stores: Sized {
 
     /// Keeps all others from acting by what has this name, until the actor is done.
     fn alone<A: Actor<Self>>(&mut self, name: &str, actor: A) -> Result<A::Out, Failure>
-        ensures acts { IfOk result (A.acts actor self.old self.new) }
-        ensures alone { OnOk result (saw self.old (Alone name.now)) };
+        ensures { ActsAlone saw name.now (A.acts actor) self.old self.new result };
 
     /// The text of this name. None if there is none.
     fn text(&self, alloc: Global, name: &str) -> Result<Option<String>, Failure>

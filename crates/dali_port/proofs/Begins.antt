@@ -7,7 +7,7 @@ use Rattle.dali_port.specs.declared.state.{Port.Port, Phase.Phase}
 use Rattle.dali_port.specs.declared.state.Phase.TheVariants.{Free, Waiting, Sending, Breaking, Listening}
 use Rattle.dali_port.specs.declared.state.Sending.{Sending as Sent}
 use Rattle.dali_port.specs.Orders.{is_later}
-use Rattle.dali_port.specs.Frames.{begun_at, level_at, agreed_by, compared_by, compared, turned, next_of, sent_beyond, sent_until}
+use Rattle.dali_port.specs.Frames.{begun_at}
 use Rattle.dali_port.specs.Ports.{read_at, has_no_power, is_broken_off, listened_by, since_edge, until_in, until, edge_in, edged, lost_in, lost, on_course}
 use Rattle.dali_port.specs.Calls.{drive_of, drive_in, is_backwards, may_begin, is_too_late, timed_in, timed, timer_after}
 use Rattle.dali_port.specs.Calls.{same_level, edge_after, lost_after, refused, is_gone, taken, send_after, send_after_by}
@@ -16,15 +16,15 @@ use Rattle.dali_port.proofs.Words.{read_keeps}
 
 -- WHAT IS DRIVEN LOW
 
-low_in : (ph : Phase) (now : ℕ) → (drive_in ph now).is_low ≡ true → IsDrivenLow ph
-low_in Free now is = absurd (cc)
-low_in (Waiting order) now is = absurd (cc)
-low_in (Sending s) now is = is
-low_in (Breaking since) now is = tt {0}
-low_in (Listening l) now is = absurd (cc)
+low_in : (ph : Phase) (p : Port) → (drive_in ph p).is_low ≡ true → IsDrivenLow ph
+low_in Free p is = absurd (cc)
+low_in (Waiting order) p is = absurd (cc)
+low_in (Sending s) p is = is
+low_in (Breaking since) p is = tt {0}
+low_in (Listening l) p is = absurd (cc)
 
 pub low_is : (p : Port) → (drive_of p).is_low ≡ true → IsDrivenLow p.phase
-low_is p is = low_in p.phase p.called is
+low_is p is = low_in p.phase p is
 
 -- WHEN A FRAME BEGINS
 
@@ -49,21 +49,21 @@ after_hearing : (heard : Option Answer) (p : Port) (asks : Bool) (w : Window) �
 after_hearing None p asks w = refl
 after_hearing (Some heard) p asks w = refl
 
-until_quiet_in : (ph : Phase) (p : Port) (now : ℕ) → p.phase ≡ ph → is_sending ph ≡ false
+pub until_still : (ph : Phase) (p : Port) (now : ℕ) → p.phase ≡ ph → is_sending ph ≡ false
     → is_sending (until_in ph (record p { called = now }) now).phase ≡ false
-until_quiet_in Free p now is quiet =
+until_still Free p now is quiet =
     either (has_no_power p now) _ _ refl (quiet_as Free (read_at (record p { called = now }) now) (read_keeps (record p { called = now }) now ∙ is) refl)
-until_quiet_in (Waiting order) p now is quiet =
+until_still (Waiting order) p now is quiet =
     either (has_no_power p now) _ _ refl
     (quiet_as (Waiting order) (read_at (record p { called = now }) now) (read_keeps (record p { called = now }) now ∙ is) refl)
-until_quiet_in (Sending s) p now is quiet = absurd (cc)
-until_quiet_in (Breaking since) p now is quiet =
+until_still (Sending s) p now is quiet = absurd (cc)
+until_still (Breaking since) p now is quiet =
     either (is_broken_off since now) _ _ refl (quiet_as (Breaking since) (record p { called = now }) is refl)
-until_quiet_in (Listening l) p now is quiet =
+until_still (Listening l) p now is quiet =
     after_hearing (told_after l.window (since_edge p now)) (record p { called = now }) l.asks (window_at l.window (since_edge p now))
 
 until_quiet : (p : Port) (now : ℕ) → is_sending p.phase ≡ false → is_sending (until p now).phase ≡ false
-until_quiet p now quiet = until_quiet_in p.phase p now refl quiet
+until_quiet p now quiet = until_still p.phase p now refl quiet
 
 begun_of : (may late : Bool) (order : Order) (now : ℕ) (s : Sent) (x y q : Port) → x.phase ≡ Free → y.phase ≡ Sending (begun_at order now)
     → q.phase ≡ Waiting order → (if may then (if late then x else y) else q).phase ≡ Sending s → (may ≡ true) × (begun_at order now ≡ s)

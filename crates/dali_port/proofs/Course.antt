@@ -6,8 +6,8 @@ use Rattle.dali_port.specs.declared.state.{Port.Port, Phase.Phase}
 use Rattle.dali_port.specs.declared.state.Phase.TheVariants.{Free, Waiting, Sending, Breaking, Listening}
 use Rattle.dali_port.specs.declared.state.Sending.{Sending as Sent}
 use Rattle.dali_port.specs.Times.{half_bit}
-use Rattle.dali_port.specs.Frames.{level_at, agreed_by, compared_by, compared, turned, next_of, sent_beyond, sent_until}
-use Rattle.dali_port.specs.Ports.{until_in, until, edged, lost_in, lost, on_course}
+use Rattle.dali_port.specs.Frames.{driven_in, same, agreed_by, compared_by, compared, turned, next_of, sent_beyond, sent_until}
+use Rattle.dali_port.specs.Ports.{broken_at, until_in, until, edged, lost_in, lost, on_course}
 use Rattle.dali_port.specs.Calls.{is_backwards, timed, timer_after, same_level, edge_after, lost_after}
 use Rattle.dali_port.specs.Laws.{GoesOn}
 
@@ -23,24 +23,24 @@ goes_is false v u e = cc
 within : (s u : Sent) (a now : ℕ) → compared_by s a now ≡ course.Goes u → GoesOn s u now
 within s u a now e =
     let same : record s { agreed = a } ≡ u = goes_is (nat_lt 40 (now - a)) _ u e in
-    subst (λ (x : Sent). GoesOn s x now) same (refl, refl, inl (refl, refl))
+    subst (λ (x : Sent). GoesOn s x now) same (refl, inl (refl, refl))
 
-next_goes : (over late : Bool) (s v u : Sent) (turn a now : ℕ) → (v.order ≡ s.order) × (v.levels ≡ s.levels) × (v.half ≡ s.half)
+next_goes : (over late : Bool) (s v u : Sent) (turn a now : ℕ) → (v.order ≡ s.order) × (v.half ≡ s.half)
     → turn ≡ s.since + half_bit → turn ≤ now
     → (if over then course.Whole else (if late then course.Destroyed else compared_by (turned v turn) a now)) ≡ course.Goes u → GoesOn s u now
 next_goes true late s v u turn a now are is before e = absurd (cc)
 next_goes false true s v u turn a now are is before e = absurd (cc)
 next_goes false false s v u turn a now are is before e =
     let same : record (turned v turn) { agreed = a } ≡ u = goes_is (nat_lt 40 (now - a)) _ u e in
-    subst (λ (x : Sent). GoesOn s x now) same (are.0, are.1, inr (ap (λ h. next_of h) are.2, is, before))
+    subst (λ (x : Sent). GoesOn s x now) same (are.0, inr (ap (λ h. next_of h) are.1, is, before))
 
 beyond : (c : Course) (s u : Sent) (a turn lasted : ℕ) (low : Bool) (now : ℕ) → compared_by s a turn ≡ c → turn ≡ s.since + half_bit → turn ≤ now
     → sent_beyond c turn lasted low now ≡ course.Goes u → GoesOn s u now
 beyond (course.Goes v) s u a turn lasted low now was is before e =
     let same : record s { agreed = a } ≡ v = goes_is (nat_lt 40 (turn - a)) _ v was in
-    next_goes (nat_le 40 (v.half + 1)) (nat_lt (2 * half_bit) lasted) s v u turn
-    (agreed_by (level_at (turned v turn) (turned v turn).half) low (turned v turn).agreed now) now
-    (subst (λ (x : Sent). (x.order ≡ s.order) × (x.levels ≡ s.levels) × (x.half ≡ s.half)) same (refl, refl, refl)) is before e
+    next_goes (nat_le 39 v.half) (nat_lt (2 * half_bit) lasted) s v u turn
+    (agreed_by (driven_in (turned v turn)) low (turned v turn).agreed now) now
+    (subst (λ (x : Sent). (x.order ≡ s.order) × (x.half ≡ s.half)) same (refl, refl)) is before e
 beyond course.Destroyed s u a turn lasted low now was is before e = absurd (cc)
 beyond course.Whole s u a turn lasted low now was is before e = absurd (cc)
 
@@ -50,12 +50,12 @@ turn_before since now late = grind (arith, nat_tests)
 course_by : (b : Bool) (s u : Sent) (low : Bool) (now : ℕ) → nat_lt (now - s.since) half_bit ≡ b
     → (if b then compared s low now else sent_beyond (compared s low (s.since + half_bit)) (s.since + half_bit) (now - s.since) low now) ≡ course.Goes u
     → GoesOn s u now
-course_by true s u low now is e = within s u (agreed_by (level_at s s.half) low s.agreed now) now e
+course_by true s u low now is e = within s u (agreed_by (driven_in s) low s.agreed now) now e
 course_by false s u low now is e =
-    beyond (compared s low (s.since + half_bit)) s u (agreed_by (level_at s s.half) low s.agreed (s.since + half_bit)) (s.since + half_bit)
+    beyond (compared s low (s.since + half_bit)) s u (agreed_by (driven_in s) low s.agreed (s.since + half_bit)) (s.since + half_bit)
     (now - s.since) low now refl refl (turn_before s.since now is) e
 
-course_goes : (s u : Sent) (low : Bool) (now : ℕ) → sent_until s low now ≡ course.Goes u → GoesOn s u now
+pub course_goes : (s u : Sent) (low : Bool) (now : ℕ) → sent_until s low now ≡ course.Goes u → GoesOn s u now
 course_goes s u low now e = course_by (nat_lt (now - s.since) half_bit) s u low now refl e
 
 -- at the timer, at an edge, and if one may have been lost
@@ -64,14 +64,20 @@ timed_course (course.Goes u) q s t now e = ap (λ x. course.Goes x) (sent_is u t
 timed_course course.Destroyed q s t now e = let no : Breaking now ≡ Sending t = e in absurd (cc)
 timed_course course.Whole q s t now e = let no : Listening _ ≡ Sending t = e in absurd (cc)
 
+not_led : (b : Bool) (q x : Port) (u t : Sent) (now : ℕ) → q.phase ≡ Sending u → x.phase ≡ Breaking now → (if b then q else x).phase ≡ Sending t → u ≡ t
+not_led true q x u t now sends breaks e = sent_is u t (sym sends ∙ e)
+not_led false q x u t now sends breaks e = let no : Breaking now ≡ Sending t = sym breaks ∙ e in absurd (cc)
+
 edged_course : (c : Course) (q : Port) (s t : Sent) (low : Bool) (now : ℕ) → (edged (on_course q s now c) low now).phase ≡ Sending t → c ≡ course.Goes t
-edged_course (course.Goes u) q s t low now e = ap (λ x. course.Goes x) (sent_is u t e)
+edged_course (course.Goes u) q s t low now e =
+    ap (λ x. course.Goes x)
+    (not_led (same (driven_in u) low) (record q { phase = Sending u }) (broken_at (record q { phase = Sending u }) u.order.frame now) u t now refl refl e)
 edged_course course.Destroyed q s t low now e = let no : Breaking now ≡ Sending t = e in absurd (cc)
 edged_course course.Whole q s t low now e = let no : Listening _ ≡ Sending t = e in absurd (cc)
 
 stays_goes : (p : Port) (s t : Sent) (now : ℕ) → p.phase ≡ Sending s → p.phase ≡ Sending t → GoesOn s t now
 stays_goes p s t now was is =
-    subst (λ (x : Sent). GoesOn s x now) (sent_is s t (sym was ∙ is)) (refl, refl, inl (refl, refl))
+    subst (λ (x : Sent). GoesOn s x now) (sent_is s t (sym was ∙ is)) (refl, inl (refl, refl))
 
 timer_by : (back : Bool) (p : Port) (now : ℕ) (s t : Sent) → p.phase ≡ Sending s
     → (if back then p else timed (until_in (Sending s) (record p { called = now }) now) now).phase ≡ Sending t → GoesOn s t now

@@ -1,4 +1,5 @@
-mod Halves
+mod Levels
 mod Words
 mod Begins
 mod Course
+mod Runs

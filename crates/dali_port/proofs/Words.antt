@@ -15,10 +15,10 @@ use Rattle.dali_port.specs.declared.state.{Port.Port, Phase.Phase, Event.Event}
 use Rattle.dali_port.specs.declared.state.Phase.TheVariants.{Free, Waiting, Sending, Breaking, Listening}
 use Rattle.dali_port.specs.declared.state.Sending.{Sending as Sent}
 use Rattle.dali_port.specs.declared.state.Listening.{Listening as After}
-use Rattle.dali_port.specs.Frames.{sent_until}
+use Rattle.dali_port.specs.Frames.{driven_in, same, sent_until}
 use Rattle.dali_port.specs.Orders.{is_later, heard_word, is_randomise, refusal_of}
 use Rattle.dali_port.specs.Ports.{noted, noted_frame, noted_told, read_at, has_no_power, lapsed_in, is_broken_off, on_course, listened_by, since_edge}
-use Rattle.dali_port.specs.Ports.{until_in, event_in, until, event_until, lapsed_word, lapses, edge_in, edged, lost_in, lost, only}
+use Rattle.dali_port.specs.Ports.{broken_at, until_in, event_in, until, event_until, lapsed_word, lapses, edge_in, edged, lost_in, lost, only}
 use Rattle.dali_port.specs.Calls.{Answered, is_backwards, also, may_begin, is_too_late, timed_in, timed_word, timed, timer_after, timer_told, is_free}
 use Rattle.dali_port.specs.Calls.{same_level, edge_after, edge_told, lost_after, lost_told, refused, is_gone}
 use Rattle.dali_port.specs.Calls.{send_after, send_told, send_after_by, send_told_by}
@@ -64,6 +64,10 @@ one_of : (b : Bool) (ph : Phase) (q r : Port) (v w : Option Word) → IsOneWord 
     → IsOneWord ph (if b then q else r).phase (if b then v else w)
 one_of true ph q r v w one other = one
 one_of false ph q r v w one other = other
+
+same_word : (b : Bool) (ph : Phase) (q r : Port) → IsOneWord ph q.phase None → IsOneWord ph r.phase None → IsOneWord ph (if b then q else r).phase None
+same_word true ph q r one other = one
+same_word false ph q r one other = other
 
 event_of : (b : Bool) (ph : Phase) (q r : Port) (e f : Event) → IsOneWord ph q.phase e.word → IsOneWord ph r.phase f.word
     → IsOneWord ph (if b then q else r).phase (if b then e else f).word
@@ -122,7 +126,8 @@ lapses_or_not false order = (refl, refl)
 edge_one_in : (ph : Phase) (p : Port) (low : Bool) (now : ℕ) → p.phase ≡ ph → IsOneWord ph (edge_in ph p low now).phase (lapsed_word ph)
 edge_one_in Free p low now is = stays_as Free p is
 edge_one_in (Waiting order) p low now is = lapses_or_not (is_later order) order
-edge_one_in (Sending s) p low now is = stays_as (Sending s) p is
+edge_one_in (Sending s) p low now is =
+    same_word (same (driven_in s) low) (Sending s) p (broken_at p s.order.frame now) (stays_as (Sending s) p is) (refl, refl)
 edge_one_in (Breaking since) p low now is = stays_as (Breaking since) p is
 edge_one_in (Listening l) p low now is = (refl, refl)
 
@@ -215,3 +220,6 @@ send_by (Some refusal) p order now is = refl
 
 pub send_one : (p : Port) (order : Order) (now : ℕ) → HandsIn p (send_after p order now) (send_told p order now)
 send_one p order now = send_by (refused p order now) p order now refl
+
+pub was_free : (p : Port) (order : Order) (now : ℕ) → refused p order now ≡ None → p.phase ≡ Free
+was_free p order now is = free_is p.phase (not_refused (is_backwards p now) (is_free p.phase) (refusal_of order) is)

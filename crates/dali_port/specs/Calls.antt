@@ -17,7 +17,7 @@ use Rattle.dali_port.specs.declared.state.Drive.{Drive}
 use Rattle.dali_port.specs.Times.{half_bit, frame_time, settling_of, break_time, pair_time}
 use Rattle.dali_port.specs.Times.{draw_time, power_time}
 use Rattle.dali_port.specs.Orders.{is_later, is_first, is_second, refusal_of}
-use Rattle.dali_port.specs.Frames.{begun_at, level_at}
+use Rattle.dali_port.specs.Frames.{begun_at, driven_in, next_in}
 use Rattle.dali_port.specs.Ports.{rested, rest_event, until, event_until, edged, lost, lapsed_word}
 use Rattle.dali_port.specs.Ports.{only}
 
@@ -153,42 +153,17 @@ send_told_by (Some refusal) p order now = Err refusal
 abbrev pub send_told : Port → Order → ℕ → Answered
 send_told p order now = send_told_by (refused p order now) p order now
 
--- WHAT IS DRIVEN: low in a half bit that is low, and in a break; and what from when on.
+-- WHEN TO CALL AGAIN if no edge comes before: when a frame has ended, when the next half bit
+-- begins, when a break, a window or the wait for rest is over, and when a bus has no power.
 abbrev pub at_most : ℕ → ℕ
 at_most time = min time (2 ^ 64 - 1)
 
-abbrev pub high : ℕ → Drive
-high now = record { is_low = false; next = false; at = now }
-
-abbrev pub drive_in : Phase → ℕ → Drive
-drive_in Free now = high now
-drive_in (Waiting order) now = high now
-drive_in (Sending s) now = record {
-  is_low = level_at s s.half;
-  next = level_at s (s.half + 1);
-  at = at_most (s.since + half_bit);
-}
-drive_in (Breaking since) now =
-    record { is_low = true; next = false; at = at_most (since + break_time) }
-drive_in (Listening l) now = high now
-
-abbrev pub drive_of : Port → Drive
-drive_of p = drive_in p.phase p.called
-
--- WHEN TO CALL AGAIN if no edge comes before: when a frame has ended, when the next half bit
--- begins, when a break, a window or the wait for rest is over, and when a bus has no power.
 abbrev pub draws_until : Option ℕ → ℕ
 draws_until None = 0
 draws_until (Some draws) = at_most (draws + draw_time)
 
-abbrev pub window_left : Window → Bool → ℕ
-window_left w low =
-    if low then 50001 - w.elapsed
-    else (if is_idle w.receiver.reading then 12401 - w.elapsed
-    else max 2400 (12401 - w.elapsed))
-
-abbrev pub begin_due : Port → Order → ℕ
-begin_due p order =
+abbrev pub begins_at : Port → Order → ℕ
+begins_at p order =
     max (at_most (p.edge + (settling_of order.priority + order.drawn))) (draws_until p.draws)
 
 abbrev pub rest_due : Port → Option ℕ → Option ℕ
@@ -197,12 +172,29 @@ rest_due p begin =
     else Some (at_most (p.edge + power_time)))
     else (if is_idle p.receiver.reading then begin else Some (at_most (p.edge + 2400)))
 
-abbrev pub due_in : Phase → Port → Option ℕ
-due_in Free p = rest_due p None
-due_in (Waiting order) p = rest_due p (Some (begin_due p order))
-due_in (Sending s) p = Some (at_most (s.since + half_bit))
-due_in (Breaking since) p = Some (at_most (since + break_time))
-due_in (Listening l) p = Some (at_most (p.edge + window_left l.window p.is_low))
+abbrev pub window_left : Window → Bool → ℕ
+window_left w low =
+    if low then 50001 - w.elapsed
+    else (if is_idle w.receiver.reading then 12401 - w.elapsed
+    else max (12401 - w.elapsed) 2400)
 
-abbrev pub due_of : Port → Option ℕ
-due_of p = due_in p.phase p
+abbrev pub window_due : Port → Window → ℕ
+window_due p w = at_most (p.edge + window_left w p.is_low)
+
+-- WHAT IS DRIVEN: low in a half bit that is low, and in a break; and what from when on.
+abbrev pub drive_in : Phase → Port → Drive
+drive_in Free p = record { is_low = false; at = rest_due p None; next = false }
+drive_in (Waiting order) p =
+    record { is_low = false; at = rest_due p (Some (begins_at p order)); next = false }
+drive_in (Sending s) p = record {
+  is_low = driven_in s;
+  at = Some (at_most (s.since + half_bit));
+  next = next_in s;
+}
+drive_in (Breaking since) p =
+    record { is_low = true; at = Some (at_most (since + break_time)); next = false }
+drive_in (Listening l) p =
+    record { is_low = false; at = Some (window_due p l.window); next = false }
+
+abbrev pub drive_of : Port → Drive
+drive_of p = drive_in p.phase p

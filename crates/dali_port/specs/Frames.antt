@@ -1,5 +1,6 @@
 use Rattle.std.specs.Prelude.{ℕ, suc, ◌+◌, ◌-◌, ◌*◌, min, Bool, true, false, nat_lt, nat_le, ◌==◌}
 use Rattle.std.specs.Prelude.{slice_index_or, if◌then◌else◌}
+use Rattle.dali_frame.specs.declared.frames.Forward.{Forward}
 use Rattle.dali_wire.specs.Levels.{sent_levels, forward_bits}
 use Rattle.dali_port.specs.declared.orders.Order.{Order}
 use Rattle.dali_port.specs.declared.state.Sending.{Sending}
@@ -7,20 +8,30 @@ use Rattle.dali_port.specs.declared.frames.Course.{Course}
 use Rattle.dali_port.specs.declared.frames.Course.TheVariants.{Goes, Destroyed, Whole}
 use Rattle.dali_port.specs.Times.{half_bit, apart}
 
--- A FRAME THAT IS BEING SENT: the levels of `Sender`, each for a half bit. The first is low.
+-- THE LEVELS OF A FRAME, those of `Sender`, each for a half bit; once the stop condition is over,
+-- high
+abbrev pub level_at : Forward → ℕ → Bool
+level_at frame half = slice_index_or (sent_levels (forward_bits frame)) half false
+
+-- A FRAME THAT IS BEING SENT. Its first level is low.
 abbrev pub begun_at : Order → ℕ → Sending
 begun_at order now = record {
   order = order;
-  levels = sent_levels (forward_bits order.frame);
   half = 0;
   since = now;
   agreed = now;
   driven = now;
 }
 
--- the level of a half bit; once the stop condition is over, high
-abbrev pub level_at : Sending → ℕ → Bool
-level_at s half = if nat_lt half 40 then slice_index_or s.levels half false else false
+-- the level that is driven, and the next one
+abbrev pub next_of : ℕ → ℕ
+next_of half = min (half + 1) 255
+
+abbrev pub driven_in : Sending → Bool
+driven_in s = level_at s.order.frame s.half
+
+abbrev pub next_in : Sending → Bool
+next_in s = level_at s.order.frame (next_of s.half)
 
 abbrev pub same : Bool → Bool → Bool
 same true true = true
@@ -38,17 +49,14 @@ compared_by s agreed now =
     if nat_lt apart (now - agreed) then Destroyed else Goes (record s { agreed = agreed })
 
 abbrev pub compared : Sending → Bool → ℕ → Course
-compared s low now = compared_by s (agreed_by (level_at s s.half) low s.agreed now) now
+compared s low now = compared_by s (agreed_by (driven_in s) low s.agreed now) now
 
 -- THE NEXT HALF BIT; if it has another level, this is an edge
-abbrev pub next_of : ℕ → ℕ
-next_of half = min (half + 1) 255
-
 abbrev pub turned : Sending → ℕ → Sending
 turned s now = record s {
   half = next_of s.half;
   since = now;
-  driven = if same (level_at s s.half) (level_at s (next_of s.half)) then s.driven else now;
+  driven = if same (driven_in s) (next_in s) then s.driven else now;
 }
 
 -- THE COURSE OF A FRAME, if the bus kept its level until now: within a half bit; beyond it, into
@@ -56,7 +64,7 @@ turned s now = record s {
 -- bit drove no edge at its end, and the frame is destroyed.
 abbrev pub sent_beyond : Course → ℕ → ℕ → Bool → ℕ → Course
 sent_beyond (Goes s) turn lasted low now =
-    if nat_le 40 (s.half + 1) then Whole
+    if nat_le 39 s.half then Whole
     else (if nat_lt (2 * half_bit) lasted then Destroyed else compared (turned s turn) low now)
 sent_beyond Destroyed turn lasted low now = Destroyed
 sent_beyond Whole turn lasted low now = Destroyed

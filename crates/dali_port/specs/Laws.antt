@@ -7,7 +7,7 @@ use Rattle.dali_port.specs.declared.state.Phase.TheVariants.{Free, Waiting, Send
 use Rattle.dali_port.specs.declared.state.Phase.TheVariants.{Listening}
 use Rattle.dali_port.specs.declared.state.Port.{Port}
 use Rattle.dali_port.specs.Times.{half_bit}
-use Rattle.dali_port.specs.Frames.{level_at, begun_at, next_of}
+use Rattle.dali_port.specs.Frames.{driven_in, begun_at, next_of}
 use Rattle.dali_port.specs.Ports.{until}
 use Rattle.dali_port.specs.Calls.{Answered, is_free, may_begin}
 
@@ -38,7 +38,7 @@ HandsIn p q (Err refusal) = q ≡ p
 abbrev pub IsDrivenLow : Phase → Type 0
 IsDrivenLow Free = ⊥
 IsDrivenLow (Waiting order) = ⊥
-IsDrivenLow (Sending s) = level_at s s.half ≡ true
+IsDrivenLow (Sending s) = driven_in s ≡ true
 IsDrivenLow (Breaking since) = Unit {0}
 IsDrivenLow (Listening l) = ⊥
 
@@ -61,6 +61,5 @@ Begins p s now =
 abbrev pub GoesOn : Sent → Sent → ℕ → Type 0
 GoesOn s t now =
     (t.order ≡ s.order)
-    × (t.levels ≡ s.levels)
     × (((t.half ≡ s.half) × (t.since ≡ s.since))
     ⊎ ((t.half ≡ next_of s.half) × (t.since ≡ s.since + half_bit) × (t.since ≤ now)))

@@ -4,3 +4,4 @@ pub mod Frames
 pub mod Ports
 pub mod Calls
 pub mod Laws
+pub mod Runs

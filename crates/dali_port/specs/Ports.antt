@@ -28,7 +28,7 @@ use Rattle.dali_port.specs.declared.state.Read.TheVariants.{Frame, NoPower}
 use Rattle.dali_port.specs.declared.state.Event.{Event}
 use Rattle.dali_port.specs.Times.{break_time, pair_time, power_time}
 use Rattle.dali_port.specs.Orders.{is_later, is_randomise, heard_word}
-use Rattle.dali_port.specs.Frames.{sent_until}
+use Rattle.dali_port.specs.Frames.{driven_in, same, sent_until}
 
 -- THE PORT AS A TABLE: what time does in each phase, what an edge does, and what is done if an edge
 -- may have been lost.
@@ -196,8 +196,9 @@ event_in (Listening l) p now = only (listened_word p l now)
 abbrev pub event_until : Port → ℕ → Event
 event_until p now = event_in p.phase p now
 
--- AN EDGE. While a frame of the port is on the bus it is compared alone; in the window it is heard;
--- else it is read, and ends the transaction: a later frame that waits lapses.
+-- AN EDGE. While a frame of the port is on the bus, an edge to another level than the one that is
+-- driven destroys it: the bus follows what is driven, and never leads. In the window an edge is
+-- heard; else it is read, and ends the transaction: a later frame that waits lapses.
 abbrev pub lapses : Order → Phase
 lapses order = if is_later order then Free else Waiting order
 
@@ -216,7 +217,8 @@ edge_in (Waiting order) p low now = record p {
   is_over = true;
   phase = lapses order;
 }
-edge_in (Sending s) p low now = p
+edge_in (Sending s) p low now =
+    if same (driven_in s) low then p else broken_at p s.order.frame now
 edge_in (Breaking since) p low now = p
 edge_in (Listening l) p low now = record p {
   phase = Listening (record l { window = window_after l.window low (since_edge p now) });

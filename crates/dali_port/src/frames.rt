@@ -1,19 +1,17 @@
 //! A frame on the bus, half bit by half bit, and compared with it.
 
-ghost use Rattle.std.specs.Prelude.{◌≡◌};
-ghost use Rattle.dali_wire.specs.Levels.{sent_levels, forward_bits};
-ghost use Rattle.dali_port.specs.Frames.{level_at, begun_at, agreed_by, compared, turned, sent_until};
+ghost use Rattle.std.specs.Prelude.{◌≡◌, ◌<◌, ◌+◌, ◌*◌, ◌^◌};
+ghost use Rattle.dali_port.specs.Frames.{level_at, begun_at, next_of, agreed_by, compared, turned, sent_until};
 
 use crate::orders::Order;
 use crate::state::Sending;
 use dali_frame::Forward;
-use dali_wire::Sender;
 
 /// A half bit of a sender, in µs (IEC 62386-101:2014, transmitter bit timing).
 pub(crate) const HALF_BIT: u64 = 417;
 
 /// How many half bits a forward frame has, with its stop condition.
-const HALVES: usize = 40;
+const HALVES: u8 = 40;
 
 /// How long the level of the bus may differ from the one that is driven, in µs.
 const APART: u64 = 40;
@@ -29,17 +27,23 @@ pub enum Course {
     Whole,
 }
 
-fn levels(frame: Forward) -> [bool; 40]
-    ensures { result ≡ sent_levels (forward_bits frame) }
+/// The 17 bits of a frame, with its start bit.
+fn bits(address_byte: u8, opcode_byte: u8) -> u32
+    ensures bits { result ≡ 0x10000 + 256 * address_byte + opcode_byte }
+    ensures count { result < 2 ^ 17 }
 {
-    let mut sender = Sender::forward(frame);
-    let mut is_low = [false; HALVES];
-    for at in 0..HALVES {
-        if let Some(low) = sender.half() {
-            is_low[at] = low;
-        }
+    0x10000 + 256 * u32::from(address_byte) + u32::from(opcode_byte)
+}
+
+/// The level of a half bit of a frame: true while the bus is low. It is high from the stop condition on.
+pub(crate) fn level(frame: Forward, half: u8) -> bool
+    ensures { result ≡ level_at frame half }
+{
+    if half >= 34 {
+        return false;
     }
-    is_low
+    let is_one = (bits(frame.address_byte, frame.opcode_byte) >> (16 - half / 2)) % 2 == 1;
+    if half % 2 == 0 { is_one } else { !is_one }
 }
 
 /// When the bus last had the level that is driven.
@@ -56,7 +60,6 @@ impl Sending {
     {
         Sending {
             order,
-            levels: levels(order.frame),
             half: 0,
             since: now,
             agreed: now,
@@ -64,22 +67,25 @@ impl Sending {
         }
     }
 
-    /// The level of a half bit, high once the stop condition is over.
-    pub(crate) fn level(&self, half: usize) -> bool
-        ensures { result ≡ level_at self.now half }
+    /// The level that is driven.
+    pub(crate) fn is_low(&self) -> bool
+        ensures { result ≡ level_at self.now.order.frame self.now.half }
     {
-        if half < HALVES {
-            self.levels[half]
-        } else {
-            false
-        }
+        level(self.order.frame, self.half)
+    }
+
+    /// The level of the next half bit.
+    pub(crate) fn next(&self) -> bool
+        ensures { result ≡ level_at self.now.order.frame (next_of self.now.half) }
+    {
+        level(self.order.frame, self.half.saturating_add(1))
     }
 
     /// The level of the bus stayed as it is until now, and so did the one that is driven.
     fn compared(&self, is_low: bool, now: u64) -> Course
         ensures { result ≡ compared self.now is_low now }
     {
-        let agreed = agreed_by(self.level(usize::from(self.half)), is_low, self.agreed, now);
+        let agreed = agreed_by(self.is_low(), is_low, self.agreed, now);
         if now.saturating_sub(agreed) > APART {
             Course::Destroyed
         } else {
@@ -91,16 +97,11 @@ impl Sending {
     fn turned(&self, now: u64) -> Sending
         ensures { result ≡ turned self.now now }
     {
-        let half = self.half.saturating_add(1);
-        let driven = if self.level(usize::from(self.half)) == self.level(usize::from(half)) {
-            self.driven
-        } else {
-            now
-        };
+        let is_edge = self.is_low() != self.next();
         Sending {
-            half,
+            half: self.half.saturating_add(1),
             since: now,
-            driven,
+            driven: if is_edge { now } else { self.driven },
             ..*self
         }
     }
@@ -116,7 +117,7 @@ impl Sending {
         let turn = self.since + HALF_BIT;
         match self.compared(is_low, turn) {
             Course::Goes(sending) => {
-                if usize::from(self.half) + 1 >= HALVES {
+                if self.half >= HALVES - 1 {
                     Course::Whole
                 } else if lasted > 2 * HALF_BIT {
                     Course::Destroyed

@@ -2,13 +2,14 @@
 //!
 //! These are laws over the definitions that the contracts of this crate cite. Programs don't call them.
 
-ghost use Rattle.std.specs.Prelude.{◌≡◌, ℕ, Bool, true, false};
+ghost use Rattle.std.specs.Prelude.{◌≡◌, ℕ, Bool, true, false, List};
 ghost use Rattle.dali_port.specs.declared.orders.Order.{Order};
 ghost use Rattle.dali_port.specs.declared.state.Sending.{Sending as Sent};
 ghost use Rattle.dali_port.specs.declared.state.Phase.TheVariants.{Sending};
 ghost use Rattle.dali_port.specs.declared.state.Port.{Port};
 ghost use Rattle.dali_port.specs.Calls.{timer_after, timer_told, edge_after, edge_told, lost_after, lost_told};
-ghost use Rattle.dali_port.specs.Calls.{send_after, send_told, drive_of};
+ghost use Rattle.dali_port.specs.Calls.{send_after, send_told, drive_of, is_drawn};
+ghost use Rattle.dali_port.specs.Runs.{Call, Times, after_all, marks_of, marks_after, marks_after_all};
 ghost use Rattle.dali_port.specs.Laws.{TellsOne, HandsIn, IsDrivenLow, is_sending, Begins, GoesOn};
 
 /// Each frame that is handed in ends with exactly one word, and no word comes of no frame.
@@ -45,4 +46,14 @@ pub fn half_bits_are_in_time()
         → (edge_after p low now).phase ≡ Sending t → GoesOn s t now }
     ensures lost { (p : Port) (low : Bool) (now : ℕ) (s t : Sent) → p.phase ≡ Sending s
         → (lost_after p low now).phase ≡ Sending t → GoesOn s t now }
+{}
+
+/// Over any run a port knows when the last pair of RANDOMISE ended that it sent or read, and begins no frame within
+/// 100 ms after it.
+pub fn nothing_is_sent_while_gear_draw()
+    ensures known { (p : Port) (calls : List Call)
+        → marks_of (after_all p calls) ≡ marks_after_all p (marks_of p) calls }
+    ensures begins { (p : Port) (calls : List Call) (now : ℕ) (s : Sent) → is_sending (after_all p calls).phase ≡ false
+        → (timer_after (after_all p calls) now).phase ≡ Sending s
+        → is_drawn (marks_after (after_all p calls) (marks_after_all p (marks_of p) calls) (Times now)).1 now ≡ true }
 {}

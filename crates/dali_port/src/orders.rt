@@ -2,7 +2,7 @@
 
 ghost use Rattle.std.specs.Prelude.{◌≡◌};
 ghost use Rattle.dali_port.specs.Times.{settling_of, span_of};
-ghost use Rattle.dali_port.specs.Orders.{is_later, is_second, is_randomise, heard_word, refusal_of};
+ghost use Rattle.dali_port.specs.Orders.{is_later, is_randomise, heard_word, refusal_of};
 
 use dali_frame::{Answer, Forward, Priority};
 use thiserror::Error;
@@ -69,20 +69,20 @@ pub(crate) fn settling(priority: Priority) -> u64
         2 => 14_900,
         3 => 16_300,
         4 => 17_900,
-        _ => 19_500,
+        5 => 19_500,
+        _ => unreachable!(),
     }
 }
 
 /// How much longer it may be at rest.
-pub(crate) fn span(priority: Priority) -> u32
+fn span(priority: Priority) -> u32
     ensures { result ≡ span_of priority }
 {
     match priority.number() {
-        1 => 1_200,
-        2 => 1_200,
-        3 => 1_400,
-        4 => 1_400,
-        _ => 1_600,
+        1 | 2 => 1_200,
+        3 | 4 => 1_400,
+        5 => 1_600,
+        _ => unreachable!(),
     }
 }
 
@@ -91,14 +91,6 @@ pub(crate) fn is_randomise(frame: Forward) -> bool
     ensures { result ≡ is_randomise frame }
 {
     frame.address_byte == 0xA7 && frame.opcode_byte == 0
-}
-
-impl Half {
-    pub(crate) fn is_second(self) -> bool
-        ensures { result ≡ is_second self }
-    {
-        matches!(self, Half::Second)
-    }
 }
 
 impl Order {
@@ -113,7 +105,7 @@ impl Order {
     pub(crate) fn refusal(&self) -> Option<Refusal>
         ensures { result ≡ refusal_of self.now }
     {
-        if self.half.is_second() && !self.is_later() {
+        if matches!(self.half, Half::Second) && !self.is_later() {
             Some(Refusal::NotLater)
         } else if self.drawn > span(self.priority) {
             Some(Refusal::BeyondSpan)

@@ -3,12 +3,12 @@
 ghost use Rattle.std.specs.Prelude.{◌≡◌, ◌^◌, ◌-◌, min, Some, None, if◌then◌else◌};
 ghost use Rattle.dali_port.specs.Ports.{since_edge, spoilt, port_at_first, noted, noted_told, has_no_power};
 ghost use Rattle.dali_port.specs.Ports.{rested, rest_event, broken_at, whole_at, on_course, broken_off};
-ghost use Rattle.dali_port.specs.Ports.{break_word, is_destroyed, listened, listened_word, until, event_until, edged};
+ghost use Rattle.dali_port.specs.Ports.{break_word, listened, listened_word, until, event_until, edged};
 ghost use Rattle.dali_port.specs.Ports.{lapses, lapsed_word, with_level, lost_window, lost, only, follows};
 ghost use Rattle.dali_port.specs.Calls.{is_drawn, may_begin, is_in_time, is_too_late, begun, timed, timed_word, also};
 ghost use Rattle.dali_port.specs.Calls.{timer_after, timer_told, edge_after, edge_told, lost_after, lost_told};
-ghost use Rattle.dali_port.specs.Calls.{refused, is_gone, send_after, send_told, drive_of, due_of, draws_until};
-ghost use Rattle.dali_port.specs.Calls.{window_left, begin_due, rest_due, taken, taken_word};
+ghost use Rattle.dali_port.specs.Calls.{refused, is_gone, send_after, send_told, drive_of};
+ghost use Rattle.dali_port.specs.Calls.{window_due, begins_at, rest_due, taken, taken_word};
 ghost use Rattle.dali_port.specs.Frames.{sent_until};
 ghost use Rattle.dali_port.specs.declared.orders.Word.TheVariants.{Lapsed};
 
@@ -89,14 +89,12 @@ fn lapsed_word(phase: &Phase) -> Option<Word>
     ensures { result ≡ lapsed_word phase.now }
 {
     match phase {
-        Phase::Waiting(order) => {
-            if order.is_later() {
-                Some(Word::Lapsed)
-            } else {
-                None
-            }
-        }
-        Phase::Free | Phase::Sending(_) | Phase::Breaking(_) | Phase::Listening(_) => None,
+        Phase::Waiting(order) if order.is_later() => Some(Word::Lapsed),
+        Phase::Free
+        | Phase::Waiting(_)
+        | Phase::Sending(_)
+        | Phase::Breaking(_)
+        | Phase::Listening(_) => None,
     }
 }
 
@@ -108,22 +106,6 @@ fn follows(last: Option<u64>, at: u64) -> bool
         None => false,
         Some(last) => at.saturating_sub(last) <= PAIR,
     }
-}
-
-fn break_word(since: u64, now: u64) -> Option<Word>
-    ensures { result ≡ break_word since now }
-{
-    if now.saturating_sub(since) >= BREAK {
-        Some(Word::Destroyed)
-    } else {
-        None
-    }
-}
-
-fn is_destroyed(word: Word) -> bool
-    ensures { result ≡ is_destroyed word }
-{
-    matches!(word, Word::Destroyed)
 }
 
 /// Whether gear have drawn.
@@ -199,20 +181,14 @@ impl Port {
     fn note_told(&mut self, told: Option<Told>)
         ensures { self.new ≡ noted_told self.old told }
     {
-        match told {
-            Some(
-                Told {
-                    frame: Frame::Forward(frame),
-                    ..
-                },
-            ) => self.note(frame, self.edge),
-            Some(
-                Told {
-                    frame: Frame::Backward(_) | Frame::Device(_) | Frame::Damaged,
-                    ..
-                },
-            )
-            | None => {}
+        if let Some(
+            Told {
+                frame: Frame::Forward(frame),
+                ..
+            },
+        ) = told
+        {
+            self.note(frame, self.edge);
         }
     }
 
@@ -228,10 +204,8 @@ impl Port {
         ensures port { self.new ≡ rested self.old now }
     {
         if self.has_no_power(now) {
-            let word = match self.phase {
-                Phase::Waiting(_) => Some(Word::Lapsed),
-                Phase::Free | Phase::Sending(_) | Phase::Breaking(_) | Phase::Listening(_) => None,
-            };
+            let is_waiting = matches!(self.phase, Phase::Waiting(_));
+            let word = if is_waiting { Some(Word::Lapsed) } else { None };
             let read = if self.is_powerless {
                 None
             } else {
@@ -289,12 +263,12 @@ impl Port {
         ensures told { result ≡ break_word since now }
         ensures port { self.new ≡ broken_off self.old since now }
     {
-        let word = break_word(since, now);
-        if word.is_some() {
-            self.receiver = spoilt(self.is_low);
-            self.phase = Phase::Free;
+        if now.saturating_sub(since) < BREAK {
+            return None;
         }
-        word
+        self.receiver = spoilt(self.is_low);
+        self.phase = Phase::Free;
+        Some(Word::Destroyed)
     }
 
     fn listen(&mut self, listening: &Listening, now: u64) -> Option<Word>
@@ -313,7 +287,7 @@ impl Port {
             Some(heard) => {
                 let word = heard_word(listening.asks, heard);
                 self.receiver = window.receiver;
-                self.is_over = self.is_over || is_destroyed(word);
+                self.is_over = self.is_over || matches!(word, Word::Destroyed);
                 self.phase = Phase::Free;
                 Some(word)
             }
@@ -363,7 +337,12 @@ impl Port {
                 self.is_over = true;
                 self.phase = lapses(order);
             }
-            Phase::Sending(_) | Phase::Breaking(_) => {}
+            Phase::Sending(sending) => {
+                if sending.is_low() != is_low {
+                    self.destroy(sending.order.frame, now);
+                }
+            }
+            Phase::Breaking(_) => {}
             Phase::Listening(listening) => {
                 let mut window = listening.window;
                 window.edge(is_low, since);
@@ -415,7 +394,7 @@ impl Port {
     fn is_too_late(&self, order: &Order, now: u64) -> bool
         ensures { result ≡ is_too_late self.now order.now now }
     {
-        order.half.is_second() && !is_in_time(self.first, now)
+        matches!(order.half, Half::Second) && !is_in_time(self.first, now)
     }
 
     /// A frame begins, or lapses.
@@ -441,16 +420,12 @@ impl Port {
         ensures told { result ≡ timed_word self.old.phase self.old now }
         ensures port { self.new ≡ timed self.old now }
     {
-        match self.phase {
-            Phase::Waiting(order) => {
-                if self.may_begin(&order, now) {
-                    self.begin(&order, now)
-                } else {
-                    None
-                }
+        if let Phase::Waiting(order) = self.phase {
+            if self.may_begin(&order, now) {
+                return self.begin(&order, now);
             }
-            Phase::Free | Phase::Sending(_) | Phase::Breaking(_) | Phase::Listening(_) => None,
         }
+        None
     }
 
     /// The timer.
@@ -499,11 +474,10 @@ impl Port {
         if now < self.called {
             return Some(Refusal::Backwards);
         }
-        match self.phase {
-            Phase::Free => order.refusal(),
-            Phase::Waiting(_) | Phase::Sending(_) | Phase::Breaking(_) | Phase::Listening(_) => {
-                Some(Refusal::Busy)
-            }
+        if matches!(self.phase, Phase::Free) {
+            order.refusal()
+        } else {
+            Some(Refusal::Busy)
         }
     }
 
@@ -511,7 +485,8 @@ impl Port {
     fn is_gone(&self, order: &Order) -> bool
         ensures { result ≡ is_gone self.now order.now }
     {
-        order.is_later() && (self.is_over || order.half.is_second() && self.first.is_none())
+        order.is_later()
+            && (self.is_over || matches!(order.half, Half::Second) && self.first.is_none())
     }
 
     fn take(&mut self, order: &Order) -> Option<Word>
@@ -541,45 +516,16 @@ impl Port {
         }
     }
 
-    /// What to drive; look after each call.
-    pub fn drive(&self) -> Drive
-        ensures { result ≡ drive_of self.now }
+    /// When a frame that waits may begin, if no edge comes before.
+    fn begins(&self, order: &Order) -> u64
+        ensures { result ≡ begins_at self.now order.now }
     {
-        match &self.phase {
-            Phase::Free | Phase::Waiting(_) | Phase::Listening(_) => Drive {
-                is_low: false,
-                next: false,
-                at: self.called,
-            },
-            Phase::Sending(sending) => Drive {
-                is_low: sending.level(usize::from(sending.half)),
-                next: sending.level(usize::from(sending.half) + 1),
-                at: sending.since.saturating_add(HALF_BIT),
-            },
-            Phase::Breaking(since) => Drive {
-                is_low: true,
-                next: false,
-                at: since.saturating_add(BREAK),
-            },
-        }
-    }
-
-    fn draws_until(&self) -> u64
-        ensures { result ≡ draws_until self.now.draws }
-    {
-        match self.draws {
+        let rest = settling(order.priority) + u64::from(order.drawn);
+        let draws = match self.draws {
             None => 0,
             Some(draws) => draws.saturating_add(DRAW),
-        }
-    }
-
-    fn begin_due(&self, order: &Order) -> u64
-        ensures { result ≡ begin_due self.now order.now }
-    {
-        let rest = self
-            .edge
-            .saturating_add(settling(order.priority) + u64::from(order.drawn));
-        rest.max(self.draws_until())
+        };
+        self.edge.saturating_add(rest).max(draws)
     }
 
     fn rest_due(&self, begin: Option<u64>) -> Option<u64>
@@ -598,34 +544,35 @@ impl Port {
         }
     }
 
-    fn window_left(&self, window: &Window) -> u64
-        ensures { result ≡ window_left window.now self.now.is_low }
+    fn window_due(&self, window: &Window) -> u64
+        ensures { result ≡ window_due self.now window.now }
     {
         let left = u64::from(WINDOW.saturating_sub(window.elapsed));
-        if self.is_low {
+        let left = if self.is_low {
             u64::from(GIVEN_UP.saturating_sub(window.elapsed))
         } else if matches!(window.receiver.reading, Reading::Idle) {
             left
         } else {
             left.max(STOP)
-        }
+        };
+        self.edge.saturating_add(left)
     }
 
-    /// When to call `timer` again, if no other call comes before.
-    pub fn due(&self) -> Option<u64>
-        ensures { result ≡ due_of self.now }
+    /// What to drive, and when to call again; look after each call.
+    pub fn drive(&self) -> Drive
+        ensures { result ≡ drive_of self.now }
     {
-        match &self.phase {
-            Phase::Free => self.rest_due(None),
-            Phase::Waiting(order) => self.rest_due(Some(self.begin_due(order))),
-            Phase::Sending(sending) => Some(sending.since.saturating_add(HALF_BIT)),
-            Phase::Breaking(since) => Some(since.saturating_add(BREAK)),
-            Phase::Listening(listening) => {
-                Some(
-                    self.edge
-                        .saturating_add(self.window_left(&listening.window)),
-                )
-            }
-        }
+        let (is_low, at, next) = match &self.phase {
+            Phase::Free => (false, self.rest_due(None), false),
+            Phase::Waiting(order) => (false, self.rest_due(Some(self.begins(order))), false),
+            Phase::Sending(sending) => (
+                sending.is_low(),
+                Some(sending.since.saturating_add(HALF_BIT)),
+                sending.next(),
+            ),
+            Phase::Breaking(since) => (true, Some(since.saturating_add(BREAK)), false),
+            Phase::Listening(listening) => (false, Some(self.window_due(&listening.window)), false),
+        };
+        Drive { is_low, at, next }
     }
 }

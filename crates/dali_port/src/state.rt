@@ -7,9 +7,7 @@ use dali_wire::{Receiver, Told, Window};
 #[derive(Clone, Copy, Debug, PartialEq, Eq)]
 pub struct Sending {
     pub order: Order,
-    /// Its levels, half bit by half bit, with those of the stop condition: true while the bus is low.
-    pub levels: [bool; 40],
-    /// Which of them is driven.
+    /// Which half bit is driven.
     pub half: u8,
     /// Since when.
     pub since: u64,
@@ -83,10 +81,12 @@ pub struct Event {
     pub read: Option<Read>,
 }
 
-/// What the port drives: a level, and the next one from a time on.
+/// What is driven.
 #[derive(Clone, Copy, Debug, PartialEq, Eq)]
 pub struct Drive {
     pub is_low: bool,
+    /// When to call `timer`, if no other call comes before.
+    pub at: Option<u64>,
+    /// The level that is driven from then on, unless `timer` begins a frame.
     pub next: bool,
-    pub at: u64,
 }

@@ -1,29 +1,19 @@
-use Rattle.std.proofs.Common.{◌≡◌, ℕ, ◌+◌, ◌*◌, ◌%◌, ◌^◌, ◌<◌, ◌≤◌, ◌⊎◌, inl, inr, Bool, true, false, List, [], ◌∷◌, refl, sym, ap, subst, ◌∙◌, arith, Option}
-use Rattle.std.proofs.Common.{Some, None, w64, ◌==◌, ◌&&◌, ◌||◌, ◌-◌, nat_eq, max, not, is_some, zero, suc, MatchOption, if◌then◌else◌, bit_or}
-use Rattle.std.proofs.lemmas.{Bool.Decides.nat_tests, Nat.Bits.bit_at_or, Nat.Bits.bit_at-lt, Nat.Bits.bit_at_set_same, Nat.Bits.bit_at_clear_other}
-use Rattle.std.specs.Int.{bit_at}
-use Rattle.dali_frame.specs.{Priority.FIRST, Priority.LATER, Random.value_of, Random.MASK24, declared.frames.Answer.Answer}
-use Rattle.dali_frame.specs.declared.frames.Answer.TheVariants.{Silence, Byte, Damaged}
-use Rattle.dali_frame.specs.declared.{frames.Forward.Forward, numbers.SearchAddress.SearchAddress}
-use Rattle.dali_special.specs.Command.{frame_of}
-use Rattle.dali_script.specs.{Due.due_after, Due.accepts, Due.frame_put, Due.record_ordered, Records.Kept, Records.Assignment, Records.Has, Records.HasAddress}
-use Rattle.dali_script.specs.{Stages.stage_of, declared.orders.Fault.Fault, declared.orders.Input.Input, declared.orders.Order.Order}
-use Rattle.dali_script.specs.declared.orders.Order.TheVariants.{Put, Commit, Done, Halt}
-use Rattle.dali_script.specs.declared.{records.Record.Record, records.Record.TheVariants.Reserve, records.Record.TheVariants.Enrol, stage.Stage.Stage}
-use Rattle.dali_script.proofs.Lists.{has_last, has_map, enrolled_stays}
+use Rattle.dali_progress.proofs.Below.{◌≡◌, ℕ, ◌+◌, ◌*◌, ◌%◌, ◌^◌, ◌<◌, ◌≤◌, ◌⊎◌, inl, inr, Bool, true, false, List, [], ◌∷◌, refl, sym, ap, subst, ◌∙◌, arith}
+use Rattle.dali_progress.proofs.Below.{Option, Some, None, w64, ◌==◌, ◌&&◌, ◌||◌, ◌-◌, nat_eq, max, not, is_some, zero, suc, MatchOption, if◌then◌else◌, bit_or}
+use Rattle.dali_progress.proofs.Below.{nat_tests, bit_at_or, bit_at-lt, bit_at_set_same, bit_at_clear_other, bit_at, FIRST, LATER, value_of, MASK24, Answer}
+use Rattle.dali_progress.proofs.Below.{Silence, Byte, Damaged, Forward, SearchAddress, frame_of, due_after, accepts, frame_put, record_ordered, Kept}
+use Rattle.dali_progress.proofs.Below.{Assignment, Has, HasAddress, stage_of, Fault, Input, Order, Put, Commit, Done, Halt, Record, Reserve, Enrol, Stage}
+use Rattle.dali_progress.proofs.Below.{has_last, has_map, enrolled_stays, Course, first_of, number_at, address_for, is_open, open_among, least_open, is_another}
+use Rattle.dali_progress.proofs.Below.{is_anothers, Machine, machine_told, machine_heard, machine_committed, heard_after, marked_at, is_withheld}
+use Rattle.dali_progress.proofs.Below.{is_withheld_by, machine_surveying, machine_lost, course_by, next_course, beginning, IsGiven, IsSought, IsAnswered}
+use Rattle.dali_progress.proofs.Below.{IsOrdered, AfterFinding, AfterReserved, AfterMaskBy, AfterMaskOn, AfterMaskSurveyed, machine_after, machine_ordered}
+use Rattle.dali_progress.proofs.Below.{has_short, with_short, without_short, Purpose, Asking, Shorts, Way, Fresh, Surveying, found_number, IsNamed, Step}
+use Rattle.dali_progress.proofs.Below.{IsTaken, IsCourse, stage_told, heard_at, heard_by, WasHeard, IsPlain, ArePlain, IsAccounted}
 use Rattle.dali_script.specs.declared.orders.Due.TheVariants as due
 use Rattle.dali_script.specs.declared.orders.Fault.TheVariants as fault
 use Rattle.dali_script.specs.declared.orders.Input.TheVariants as input
 use Rattle.dali_script.specs.declared.stage.Stage.TheVariants as stage
-use Rattle.dali_controller.specs.Course.{Course, first_of, number_at, address_for, is_open, open_among, least_open, is_another, is_anothers}
-use Rattle.dali_controller.specs.Machine.{Machine, machine_told, machine_heard, machine_committed, heard_after, marked_at, is_withheld, is_withheld_by}
-use Rattle.dali_controller.specs.{Machine.machine_surveying, Machine.machine_lost, Next.course_by, Next.next_course, Next.beginning}
-use Rattle.dali_controller.specs.Orders.{IsGiven, IsSought, IsAnswered, IsOrdered, AfterFinding, AfterReserved, AfterMaskBy, AfterMaskOn, AfterMaskSurveyed}
-use Rattle.dali_controller.specs.{Orders.machine_after, Orders.machine_ordered, Shorts.has_short, Shorts.with_short, Shorts.without_short}
-use Rattle.dali_controller.specs.declared.{purpose.Purpose.Purpose, purpose.Purpose.TheVariants.Asking, shorts.Shorts.Shorts, way.Way.Way}
-use Rattle.dali_controller.{specs.declared.way.Way.TheVariants.Fresh, specs.declared.way.Way.TheVariants.Surveying, proofs.Courses.found_number}
-use Rattle.dali_progress.specs.{Census.IsNamed, Surveyed.Step, Surveyed.IsTaken, Surveyed.IsCourse, Surveyed.stage_told, Surveyed.heard_at, Surveyed.heard_by}
-use Rattle.dali_progress.{specs.Surveyed.WasHeard, specs.Surveyed.IsPlain, specs.Surveyed.ArePlain, specs.Surveyed.IsAccounted, proofs.Later.later_leaves}
+use Rattle.dali_progress.proofs.{Later.later_leaves}
 
 -- WHO WAS HEARD IN A SURVEY IS ACCOUNTED FOR.
 

@@ -1,24 +1,14 @@
-use Rattle.std.proofs.Common.{◌≡◌, ℕ, ◌+◌, ◌≤◌, Bool, true, suc, List, [], ◌∷◌, sym, ap, subst, ◌∙◌, arith, length, Option, Some, None, ◌⊎◌, inl, inr, refl}
-use Rattle.std.proofs.Common.{if◌then◌else◌}
-use Rattle.dali_frame.specs.declared.frames.{Answer.Answer, Forward.Forward}
-use Rattle.dali_special.specs.{Command.command_of, declared.command.Command.Command}
-use Rattle.dali_gear.specs.{Gear.Gear, Row.row_after, Row.answers_of, Row.heard_of, declared.row.Reach.TheVariants.Everyone}
-use Rattle.dali_arbiter.specs.declared.request.Request.{Request}
-use Rattle.dali_script.specs.Due.{frame_put, record_ordered}
-use Rattle.dali_script.specs.declared.orders.{End.End, Fault.Fault, Input.Input, Order.Order, Order.TheVariants.Put, Order.TheVariants.Done}
-use Rattle.dali_script.specs.declared.{orders.Order.TheVariants.Halt, orders.Order.TheVariants.Commit, records.Record.Record}
+use Rattle.dali_progress.proofs.Below.{◌≡◌, ℕ, ◌+◌, ◌≤◌, Bool, true, suc, List, [], ◌∷◌, sym, ap, subst, ◌∙◌, arith, length, Option, Some, None, ◌⊎◌, inl, inr}
+use Rattle.dali_progress.proofs.Below.{refl, if◌then◌else◌, Answer, Forward, command_of, Command, Gear, row_after, answers_of, heard_of, Everyone, Request}
+use Rattle.dali_progress.proofs.Below.{frame_put, record_ordered, End, Fault, Input, Order, Put, Done, Halt, Commit, Record, Machine, at_first, machine_told}
+use Rattle.dali_progress.proofs.Below.{machine_heard, machine_committed, machine_after, IsWhole, IsGivenBy, given_by, Allowed, IsDue, happens, IsRun}
+use Rattle.dali_progress.proofs.Below.{LeavesUsed, World, Controller, controller_at, Event, MayAnswer, LeavesWhole, machine_in, SiteState, world, site_logged}
+use Rattle.dali_progress.proofs.Below.{machine_at, next_request, HasEnded, HasNext, GoesOn, IsAlone, Succeeds, IsOfRound, Rounds, site_after, is_frame, frames}
 use Rattle.dali_script.specs.declared.orders.Input.TheVariants as input
-use Rattle.dali_controller.specs.Machine.{Machine, at_first, machine_told, machine_heard, machine_committed}
-use Rattle.dali_controller.{specs.Orders.machine_after, specs.Whole.IsWhole, proofs.Given.IsGivenBy, proofs.Given.given_by}
-use Rattle.dali_events.specs.Allowed.{Allowed, IsDue}
-use Rattle.dali_events.specs.{Happens.happens, Runs.IsRun, Runs.LeavesUsed, World.World, World.Controller, World.controller_at, declared.event.Event.Event}
 use Rattle.dali_events.specs.declared.event.Event.TheVariants as event
-use Rattle.dali_standing.specs.{Seats.MayAnswer, Seats.LeavesWhole, Standing.machine_in}
-use Rattle.dali_world.specs.Site.{SiteState, world, site_logged, machine_at, next_request}
-use Rattle.dali_progress.specs.Rounds.{HasEnded, HasNext, GoesOn, IsAlone, Succeeds, IsOfRound, Rounds, site_after, is_frame, frames}
-use Rattle.dali_progress.proofs.{Both.not_failed, Both.addresses_by, Both.IsKnown, Both.known_sent, Both.with_kept, Logged.same_some, Logged.world_logged}
-use Rattle.dali_progress.proofs.{Logged.run_logged, Logged.machines_logged, Logged.acted_machine, Lone.IsLone, Lone.IsDueIn, Lone.Rests, Lone.due_by}
-use Rattle.dali_progress.proofs.Lone.{ended_rests, acted_last, acted_told, lone_acted, lone_next, lone_sent, sent_last, Moment, due_of, acts_by, first_input}
+use Rattle.dali_progress.proofs.{Both.{not_failed, addresses_by, IsKnown, known_sent, with_kept}, Logged.{same_some, world_logged, run_logged, machines_logged}}
+use Rattle.dali_progress.proofs.{Logged.acted_machine, Lone.{IsLone, IsDueIn, Rests, due_by, ended_rests, acted_last, acted_told, lone_acted, lone_next}}
+use Rattle.dali_progress.proofs.Lone.{lone_sent, sent_last, Moment, due_of, acts_by, first_input}
 
 -- ALONG ROUNDS, one event after the other: what the arguments for a start, for a survey, and for one in which a gear is misheard have
 -- in common.

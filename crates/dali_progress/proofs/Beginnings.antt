@@ -1,18 +1,13 @@
-use Rattle.std.proofs.Common.{◌≡◌, ℕ, ◌+◌, ◌≤◌, List, sym, subst, arith, length, Some}
-use Rattle.dali_script.specs.declared.orders.End.{End}
-use Rattle.dali_controller.specs.Machine.{Machine}
-use Rattle.dali_events.specs.{Runs.IsRun, declared.event.Event.Event}
+use Rattle.dali_progress.proofs.Below.{◌≡◌, ℕ, ◌+◌, ◌≤◌, List, sym, subst, arith, length, Some, End, Machine, IsRun, Event, SiteState, world, machine_at}
+use Rattle.dali_progress.proofs.Below.{IsPumpRefused, NamesAll, IsTrueEnd, table_at, most_events, Beginning, most_frames, Rounds, GoesOn, by_survey, IsAlone}
+use Rattle.dali_progress.proofs.Below.{HasEnded, ByStart, BySurvey, frames, bare, IsSettled, IsSettledAt, site_after, BeginsAlone}
 use Rattle.dali_events.specs.declared.trouble.Trouble.TheVariants as trouble
 use Rattle.dali_standing.specs.declared.refusal.Refusal.TheVariants as refusal
-use Rattle.dali_world.specs.Site.{SiteState, world, machine_at, IsPumpRefused}
-use Rattle.dali_progress.specs.{Ends.NamesAll, Ends.IsTrueEnd, Ends.table_at, Rounds.most_events, Rounds.Beginning, Rounds.most_frames, Rounds.Rounds}
-use Rattle.dali_progress.specs.Rounds.{GoesOn, by_survey, IsAlone, HasEnded, ByStart, BySurvey, frames, bare, IsSettled, IsSettledAt, site_after, BeginsAlone}
-use Rattle.dali_progress.proofs.Along.{Measure, Argument, RunsAll, runs_all, few_all, with_left, goes_by}
-use Rattle.dali_progress.proofs.{Lone.IsLone, Start.Goes.of_start, Start.Numbers.LeavesDraws, Start.Numbers.start_draws, Survey.Goes.of_survey}
-use Rattle.dali_progress.proofs.Survey.Numbers.{HasNumbers, survey_draws}
 use Rattle.dali_progress.proofs.Drawing as drawing
 use Rattle.dali_progress.proofs.Start.Goes as start
 use Rattle.dali_progress.proofs.Survey.Goes as survey
+use Rattle.dali_progress.proofs.{Along.{Measure, Argument, RunsAll, runs_all, few_all, with_left, goes_by}, Lone.IsLone, Start.Goes.of_start}
+use Rattle.dali_progress.proofs.{Start.Numbers.{LeavesDraws, start_draws}, Survey.Goes.of_survey, Survey.Numbers.{HasNumbers, survey_draws}}
 
 -- THE LAWS BY CASES, over what is proved of a start and of a survey.
 

@@ -1,36 +1,22 @@
-use Rattle.std.proofs.Common.{◌≡◌, ℕ, ◌+◌, ◌<◌, ◌≤◌, ◌⊎◌, inl, inr, Bool, true, false, suc, List, [], ◌∷◌, ◌++◌, refl, sym, ap, subst, ◌∙◌, arith, Option, Some}
-use Rattle.std.proofs.Common.{None, if◌then◌else◌, ◌&&◌, IfSome, ◌==◌}
-use Rattle.std.{proofs.lemmas.List.Sums.sum_by-cons, specs.List.count_by}
-use Rattle.dali_frame.specs.Random.{value_of, MASK24}
-use Rattle.dali_frame.specs.declared.frames.Answer.{Answer, TheVariants.Silence, TheVariants.Byte, TheVariants.Damaged}
-use Rattle.dali_frame.specs.declared.{frames.Forward.Forward, numbers.SearchAddress.SearchAddress}
-use Rattle.dali_special.specs.{Command.command_of, declared.command.Command.Command}
-use Rattle.dali_special.specs.declared.command.Command.TheVariants.{Arc, Terminate, Initialise, Randomise, Compare, SearchHigh, SearchMiddle, SearchLow}
-use Rattle.dali_special.specs.declared.command.{Command.TheVariants.Program, Target.TheVariants.Unaddressed}
-use Rattle.dali_gear.specs.{Gear.Gear, Gear.draws_a_number, Row.answers_of, Row.heard_of, Row.drawn_of, Row.takes, Row.left_after, Row.row_left}
-use Rattle.dali_gear.{specs.Row.draws_needed, specs.declared.row.Reach.Reach, specs.declared.row.Reach.TheVariants.Everyone, proofs.RowLemmas.needs_none}
-use Rattle.dali_script.specs.{Findings.finding_of, Records.Assignment, Records.Kept, Records.Has, Records.HasAddress, Records.HasRandom, Records.with_record}
-use Rattle.dali_script.specs.{Records.IsMap, Scripts.Lawful, Scripts.IsLawful, Stages.stage_of, Stages.next_stage, Stages.finding_at}
-use Rattle.dali_script.specs.declared.orders.{End.End, Input.Input, Order.Order, Order.TheVariants.Put, Order.TheVariants.Commit, Order.TheVariants.Done}
-use Rattle.dali_script.specs.declared.{orders.Order.TheVariants.Halt, records.Record.Record, records.Record.TheVariants.Reserve}
-use Rattle.dali_script.specs.declared.{records.Record.TheVariants.Enrol, records.Record.TheVariants.Release, stage.Stage.Stage, trace.Entry.Entry}
-use Rattle.dali_script.proofs.{Firsts.free_is_empty, Lists.has_map, Lists.has_last, Members.has_left, Members.has_right, Members.same_member}
+use Rattle.dali_progress.proofs.Below.{◌≡◌, ℕ, ◌+◌, ◌<◌, ◌≤◌, ◌⊎◌, inl, inr, Bool, true, false, suc, List, [], ◌∷◌, ◌++◌, refl, sym, ap, subst, ◌∙◌, arith}
+use Rattle.dali_progress.proofs.Below.{Option, Some, None, if◌then◌else◌, ◌&&◌, IfSome, ◌==◌, sum_by-cons, count_by, value_of, MASK24, Answer, Silence, Byte}
+use Rattle.dali_progress.proofs.Below.{Damaged, Forward, SearchAddress, command_of, Command, Arc, Terminate, Initialise, Randomise, Compare, SearchHigh}
+use Rattle.dali_progress.proofs.Below.{SearchMiddle, SearchLow, Program, Unaddressed, Gear, draws_a_number, answers_of, heard_of, drawn_of, takes, left_after}
+use Rattle.dali_progress.proofs.Below.{row_left, draws_needed, Reach, Everyone, needs_none, finding_of, Assignment, Kept, Has, HasAddress, HasRandom}
+use Rattle.dali_progress.proofs.Below.{with_record, IsMap, Lawful, IsLawful, stage_of, next_stage, finding_at, End, Input, Order, Put, Commit, Done, Halt}
+use Rattle.dali_progress.proofs.Below.{Record, Reserve, Enrol, Release, Stage, Entry, free_is_empty, has_map, has_last, has_left, has_right, same_member}
+use Rattle.dali_progress.proofs.Below.{sought, byte_to_send, call_turn, turn_of, first_of, closing_of, Machine, tries_after, beginning, next_course}
+use Rattle.dali_progress.proofs.Below.{IsAddressing, Purpose, Opening, Probing, Visiting, Closing, Hunting, Calling, PassingOver, Asking, Resolving, Drawing}
+use Rattle.dali_progress.proofs.Below.{IsNoEnrolment, IsGivenBy, Allowed, happens, is_arc, trace_running, AreDrawn, IsRun, Seek, OfPowered, is_bare, IsOpened}
+use Rattle.dali_progress.proofs.Below.{NoneNamed, wants, is_wanted, World, controller_at, lawful_of, gear_are_searched, opened_apart, AreOpening, SiteState}
+use Rattle.dali_progress.proofs.Below.{world, site_logged, Succeeds}
+use Rattle.dali_events.specs.Searching.{number_at}
 use Rattle.dali_script.specs.declared.orders.Input.TheVariants as input
 use Rattle.dali_script.specs.declared.stage.Stage.TheVariants as stage
-use Rattle.dali_controller.specs.Course.{sought, byte_to_send, call_turn, turn_of, first_of, closing_of}
-use Rattle.dali_controller.specs.{Machine.Machine, Machine.tries_after, Next.beginning, Next.next_course, Orders.IsAddressing, declared.purpose.Purpose.Purpose}
-use Rattle.dali_controller.specs.declared.purpose.Purpose.TheVariants.{Opening, Probing, Visiting, Closing, Hunting, Calling, PassingOver, Asking, Resolving}
-use Rattle.dali_controller.{specs.declared.purpose.Purpose.TheVariants.Drawing, proofs.Given.IsNoEnrolment, proofs.Given.IsGivenBy}
 use Rattle.dali_controller.proofs.Given as given
-use Rattle.dali_events.specs.{Allowed.Allowed, Happens.happens, Happens.is_arc, Happens.trace_running, Runs.AreDrawn, Runs.IsRun, Searching.number_at}
-use Rattle.dali_events.specs.Wanted.{Seek, OfPowered, is_bare, IsOpened, NoneNamed, wants, is_wanted}
-use Rattle.dali_events.specs.World.{World, controller_at}
-use Rattle.dali_events.proofs.{Invariant.Sending.lawful_of, Search.Halves.gear_are_searched, Search.Heard.opened_apart, Search.Opened.AreOpening}
 use Rattle.dali_events.specs.declared.event.Event.TheVariants as event
-use Rattle.dali_world.specs.Site.{SiteState, world, site_logged}
-use Rattle.dali_progress.{specs.Rounds.Succeeds, proofs.Frames.IsTaken, proofs.Frames.value_sought, proofs.Logged.drawn_now}
-use Rattle.dali_progress.proofs.{Logged.world_logged, Logged.run_logged, Lone.Addresses, Stands.Opens, Stands.Sends, Stands.AsksBy, Stands.Visits}
-use Rattle.dali_progress.proofs.{Stands.VisitFrames, Stands.search_frames, Stands.CloseStage, Tables.StandsStill, Tables.still_twice, Tables.LeavesNames}
+use Rattle.dali_progress.proofs.{Frames.{IsTaken, value_sought}, Logged.{drawn_now, world_logged, run_logged}, Lone.Addresses, Stands.{Opens, Sends, AsksBy}}
+use Rattle.dali_progress.proofs.{Stands.{Visits, VisitFrames, search_frames, CloseStage}, Tables.{StandsStill, still_twice, LeavesNames}}
 
 -- WHAT BOTH ARGUMENTS USE, of a start and of a survey.
 

@@ -1,9 +1,7 @@
 -- The census of a survey: how many frames it sends, that what is given afterwards was silent, and who is in the table.
 pub mod Left
 pub mod Asked
-pub mod Others
 pub mod Course
 pub mod Coming
 pub mod Silent
-pub mod Told
 pub mod Spelled

@@ -1,19 +1,13 @@
-use Rattle.std.proofs.Common.{◌≡◌, ℕ, ◌<◌, ◌≤◌, List, [], ◌∷◌, sym, ap, subst, ◌∙◌, arith, length, Some, None}
-use Rattle.dali_frame.specs.declared.frames.{Answer.Answer, Forward.Forward}
-use Rattle.dali_special.specs.Command.{command_of}
-use Rattle.dali_gear.specs.{Gear.Gear, Row.row_after, Row.row_left, Row.draws_needed, Row.answers_of, Row.heard_of, declared.row.Reach.TheVariants.Everyone}
-use Rattle.dali_script.specs.declared.orders.{Input.Input, Order.Order, Order.TheVariants.Put}
+use Rattle.dali_progress.proofs.Below.{◌≡◌, ℕ, ◌<◌, ◌≤◌, List, [], ◌∷◌, sym, ap, subst, ◌∙◌, arith, length, Some, None, Answer, Forward, command_of, Gear}
+use Rattle.dali_progress.proofs.Below.{row_after, row_left, draws_needed, answers_of, heard_of, Everyone, Input, Order, Put, Machine, machine_told, IsGiven}
+use Rattle.dali_progress.proofs.Below.{machine_after, Allowed, happens, World, controller_at, Event, MayAnswer, informed_by, machine_in, SiteState, world}
+use Rattle.dali_progress.proofs.Below.{site_logged, machine_at, IsPumpRefused, Succeeds, IsOfRound, Rounds, site_after}
 use Rattle.dali_script.specs.declared.orders.Input.TheVariants as input
-use Rattle.dali_controller.specs.{Machine.Machine, Machine.machine_told, Orders.IsGiven, Orders.machine_after}
-use Rattle.dali_events.specs.{Allowed.Allowed, Happens.happens, World.World, World.controller_at, declared.event.Event.Event}
 use Rattle.dali_events.specs.declared.event.Event.TheVariants as event
 use Rattle.dali_events.specs.declared.trouble.Trouble.TheVariants as trouble
-use Rattle.dali_standing.specs.{Seats.MayAnswer, Seats.informed_by, Standing.machine_in}
 use Rattle.dali_standing.specs.declared.refusal.Refusal.TheVariants as refusal
-use Rattle.dali_world.specs.Site.{SiteState, world, site_logged, machine_at, IsPumpRefused}
-use Rattle.dali_progress.{specs.Rounds.Succeeds, specs.Rounds.IsOfRound, specs.Rounds.Rounds, specs.Rounds.site_after, proofs.Along.Measure}
-use Rattle.dali_progress.proofs.{Along.Argument, Along.Runs, Along.held, Along.runs_on, Along.runs_all, Logged.world_logged, Logged.machines_logged}
-use Rattle.dali_progress.proofs.{Logged.acted_machine, Logged.same_some, Lone.acted_last, Lone.acted_told, Lone.lone_next, Lone.lone_sent, Lone.sent_last}
+use Rattle.dali_progress.proofs.{Along.{Measure, Argument, Runs, held, runs_on, runs_all}, Logged.{world_logged, machines_logged, acted_machine, same_some}}
+use Rattle.dali_progress.proofs.Lone.{acted_last, acted_told, lone_next, lone_sent, sent_last}
 
 -- WHAT STAYS SO of machine, gear and numbers (P), in both arguments. And the numbers that gear draw are never spent: if
 -- there is one for each gear at the start, as long as something is so.

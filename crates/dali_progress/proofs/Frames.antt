@@ -1,31 +1,21 @@
-use Rattle.std.proofs.Common.{◌≡◌, ℕ, ◌+◌, ◌<◌, ◌≤◌, inl, inr, Bool, true, false, zero, suc, List, [], ◌∷◌, refl, sym, ap, subst, ◌∙◌, arith, length, get_or}
-use Rattle.std.proofs.Common.{Option, Some, None, ◌==◌, if◌then◌else◌}
-use Rattle.std.{proofs.lemmas.Bool.Decides.nat_tests, specs.List.count_by}
-use Rattle.dali_frame.specs.{Random.value_of, Random.MASK24, declared.frames.Answer.Answer, declared.frames.Answer.TheVariants.Silence}
-use Rattle.dali_frame.specs.declared.{frames.Answer.TheVariants.Byte, frames.Answer.TheVariants.Damaged, numbers.SearchAddress.SearchAddress}
-use Rattle.dali_special.specs.Command.{program_data}
-use Rattle.dali_special.specs.declared.command.Command.{Command, TheVariants.Terminate, TheVariants.Initialise}
-use Rattle.dali_special.specs.declared.command.Command.TheVariants.{Randomise, Compare, Withdraw, SearchHigh, SearchMiddle, SearchLow, Program, QueryShort}
-use Rattle.dali_special.{specs.declared.command.Target.TheVariants.Unaddressed, proofs.Table.short_of_code}
-use Rattle.dali_gear.specs.{Gear.Gear, Gear.fresh, Gear.is_active, Row.row_after, Row.draws_needed, Row.drawn_of, Row.answers_of, Row.heard_of}
-use Rattle.dali_gear.specs.declared.{row.Reach.TheVariants.Everyone, state.InitialisationState.TheVariants.Enabled}
-use Rattle.dali_script.specs.{Records.Kept, Records.Has, Stages.next_stage, Stages.queried, Stages.verified, Stages.IsSearched}
-use Rattle.dali_script.specs.declared.{orders.End.End, orders.End.TheVariants.AllFound, stage.Stage.Stage}
+use Rattle.dali_progress.proofs.Below.{◌≡◌, ℕ, ◌+◌, ◌<◌, ◌≤◌, inl, inr, Bool, true, false, zero, suc, List, [], ◌∷◌, refl, sym, ap, subst, ◌∙◌, arith, length}
+use Rattle.dali_progress.proofs.Below.{get_or, Option, Some, None, ◌==◌, if◌then◌else◌, nat_tests, count_by, value_of, MASK24, Answer, Silence, Byte, Damaged}
+use Rattle.dali_progress.proofs.Below.{SearchAddress, program_data, Command, Terminate, Initialise, Randomise, Compare, Withdraw, SearchHigh, SearchMiddle}
+use Rattle.dali_progress.proofs.Below.{SearchLow, Program, QueryShort, Unaddressed, short_of_code, Gear, fresh, is_active, row_after, draws_needed, drawn_of}
+use Rattle.dali_progress.proofs.Below.{answers_of, heard_of, Everyone, Enabled, Kept, Has, next_stage, queried, verified, IsSearched, End, AllFound, Stage}
+use Rattle.dali_progress.proofs.Below.{Search, Agrees, Gives, HasAtMost, sought, is_yes, Purpose, Opening, Probing, Visiting, Closing, HasShort, is_wanted}
+use Rattle.dali_progress.proofs.Below.{wants, is_bare, OfPowered, Seek, AreApart, IsOpened, NoneNamedBut, AreNamed, gear_of, row_length, LeavesShort, SameCore}
+use Rattle.dali_progress.proofs.Below.{EndsWell}
+use Rattle.dali_events.specs.Searching.{number_at}
 use Rattle.dali_script.specs.declared.stage.Stage.TheVariants as stage
-use Rattle.dali_search.specs.Least.{Search, Agrees, Gives, HasAtMost}
-use Rattle.dali_controller.specs.{Course.sought, Course.is_yes, declared.purpose.Purpose.Purpose}
-use Rattle.dali_controller.specs.declared.purpose.Purpose.TheVariants.{Opening, Probing, Visiting, Closing}
-use Rattle.dali_events.specs.Searching.{number_at, HasShort}
-use Rattle.dali_events.specs.Wanted.{is_wanted, wants, is_bare, OfPowered, Seek, AreApart, IsOpened, NoneNamedBut, AreNamed, gear_of}
-use Rattle.dali_events.proofs.{Invariant.Takes.row_length, Search.Leaving.LeavesShort, Search.Leaving.SameCore}
 use Rattle.dali_events.proofs.Search.Heard as hearing
 use Rattle.dali_events.proofs.Search.Leaving as leaving
 use Rattle.dali_events.proofs.Search.Opened as opening
 use Rattle.dali_events.proofs.Search.Programming as programming
 use Rattle.dali_events.proofs.Search.Wanted as wanted
 use Rattle.dali_events.proofs.Search.Withdrawing as withdrawing
-use Rattle.dali_progress.{specs.Ends.EndsWell, proofs.Stands.sent_at, proofs.Stands.search_frames, proofs.Stands.probe_frames}
-use Rattle.dali_progress.proofs.Stands.{Opens, ProbeStage, Probes, VisitStage, IsVisited, VisitFrames, Visits, HaveShort, Names, VisitsAt, Closes, At, Sends}
+use Rattle.dali_progress.proofs.Stands.{sent_at, search_frames, probe_frames, Opens, ProbeStage, Probes, VisitStage, IsVisited, VisitFrames, Visits, HaveShort}
+use Rattle.dali_progress.proofs.Stands.{Names, VisitsAt, Closes, At, Sends, some_is, visit_by}
 
 -- A FRAME IS SENT, and each gear with power takes it. The transaction goes on to its next stage, and one frame less is
 -- left to be sent.
@@ -49,10 +39,6 @@ IsSentTo p s k opened x n gs numbers left c h =
 pub one_less : (need left sent : ℕ) → need ≤ left + sent → sent < need → (l : ℕ) × (left ≡ suc l) × (need ≤ l + (sent + 1))
 one_less need zero sent enough small = absurd (omega (arith, enough, small))
 one_less need (suc l) sent enough small = (l, refl, omega (arith, enough))
-
--- the command of a turn
-pub some_is : (x c : Command) → Some x ≡ Some c → x ≡ c
-some_is x c e = cc
 
 -- ---------------------------------------------------------------- an opening
 
@@ -267,66 +253,37 @@ visit_next s t k x n gs hs left v same stage searched sent few =
       (refl, visits_on s t k n gs hs left less.0 v same stage searched (subst (λ m. VisitFrames k n v.more (less.0 + m)) (sym sent) less.2)),
     )
 
-visits_sent : (s : Stage) (k : Kept) (x : Search) (n : SearchAddress) (gs : List Gear) (numbers : List ℕ) (left : ℕ) (c : Command) (h : Answer)
-    → Visits s k n gs left → Sends Visiting n k s c → IsTaken c gs numbers h → Seeks s gs → IsSentTo Visiting s k true x n gs numbers left c h
-visits_sent stage.Free k x n gs numbers left c h v is taken seek =
-    subst (λ d. IsSentTo Visiting stage.Free k true x n gs numbers left d h) (sym is)
-    (visit_next stage.Free (stage.HighSent n.high) k x n gs _ left v (leaving.core_after (SearchHigh n.high) gs numbers tt) tt refl refl (omega arith))
-visits_sent (stage.HighSent high) k x n gs numbers left c h v is taken seek =
-    subst (λ d. IsSentTo Visiting (stage.HighSent high) k true x n gs numbers left d h) (some_is (SearchMiddle n.middle) c is)
-    (visit_next (stage.HighSent high) (stage.MiddleSent high n.middle) k x n gs _ left v (leaving.core_after (SearchMiddle n.middle) gs numbers tt) tt
-    (v.searched, refl) refl (omega arith))
-visits_sent (stage.MiddleSent high middle) k x n gs numbers left c h v is taken seek =
-    subst (λ d. IsSentTo Visiting (stage.MiddleSent high middle) k true x n gs numbers left d h) (some_is (SearchLow n.low) c is)
-    (visit_next (stage.MiddleSent high middle) (stage.NumberSent (record { high = high; middle = middle; low = n.low })) k x n gs _ left v
-    (leaving.core_after (SearchLow n.low) gs numbers tt) tt (whole n high middle v.searched.0 v.searched.1) refl (omega arith))
-visits_sent (stage.NumberSent r) k x n gs numbers left c h v is taken seek =
-    subst (λ d. IsTaken d gs numbers h → IsSentTo Visiting (stage.NumberSent r) k true x n gs numbers left d h) (some_is QueryShort c is) go taken where
-      go : IsTaken QueryShort gs numbers h → IsSentTo Visiting (stage.NumberSent r) k true x n gs numbers left QueryShort h
-      go t =
-          let heard : h ≡ Byte (program_data None) =
-          visit_heard gs n r v.more None h v.visited v.searched (seek r refl) (t.apart v.ready)
-          (λ i there on active enabled random. v.unnamed i there on enabled) t.heard in
-          let there : queried r h ≡ stage.Unnamed r = ap (queried r) heard ∙ mask_queried r in
-          rw there (visit_next (stage.NumberSent r) (stage.Unnamed r) k x n gs _ left v (leaving.core_after QueryShort gs numbers tt) tt v.searched refl
-          (omega arith))
-visits_sent (stage.Unnamed r) k x n gs numbers left c h v is taken seek =
-    subst (λ d. IsSentTo Visiting (stage.Unnamed r) k true x n gs numbers left d h) (sym is.3) go where
-      here : Seek gs r
-      here = seek r refl
+given_sent : (r : SearchAddress) (a : ℕ) (k : Kept) (x : Search) (n : SearchAddress) (gs : List Gear) (numbers : List ℕ) (left : ℕ) (h : Answer)
+    → Visits (stage.Unnamed r) k n gs left → a < 64 → Has k.reserved (a, value_of r) → Seek gs r
+    → IsSentTo Visiting (stage.Unnamed r) k true x n gs numbers left (Program (Some a)) h
+given_sent r a k x n gs numbers left h v small has here =
+    let less = one_less (7 + search_frames v.more) left 4 (enough v.frames) (omega arith) in (
+      less.0,
+      less.1,
+      (
+        refl,
+        record {
+          searched = sym v.searched;
+          ready = programming.programmed_opened gs numbers r a here v.ready;
+          unnamed = subst (NoneNamedBut (row_after Everyone (Program (Some a)) 0 gs numbers)) same
+              (programming.programmed_none_named gs numbers r a here (withdrawing.none_named_but gs (value_of r) v.unnamed));
+          named = subst (λ m. HaveShort (row_after Everyone (Program (Some a)) 0 gs numbers) m a) same (short_given gs numbers r a here);
+          address = small;
+          reserved = subst (λ m. Has k.reserved (a, m)) same has;
+          more = v.more;
+          visited = visited_on n gs (row_after Everyone (Program (Some a)) 0 gs numbers) v.more v.visited
+              (λ m. programming.programmed_wants gs numbers r a m here) (programming.programmed_count gs numbers r a here);
+          frames = less.2;
+        },
+      ),
+    )
+  where
+    same : value_of r ≡ value_of n
+    same = ap value_of (sym v.searched)
 
-      same : value_of r ≡ value_of n
-      same = ap value_of (sym v.searched)
-
-      frames : 7 + search_frames v.more ≤ left + 4
-      frames = enough v.frames where
-        enough : VisitFrames k n v.more (left + 4) → 7 + search_frames v.more ≤ left + 4
-        enough (inl e) = e.1
-        enough (inr e) = omega (arith, e)
-
-      go : IsSentTo Visiting (stage.Unnamed r) k true x n gs numbers left (Program (Some is.0)) h
-      go =
-          let less = one_less (7 + search_frames v.more) left 4 frames (omega arith) in (
-            less.0,
-            less.1,
-            (
-              refl,
-              record {
-                searched = sym v.searched;
-                ready = programming.programmed_opened gs numbers r is.0 here v.ready;
-                unnamed = subst (NoneNamedBut (row_after Everyone (Program (Some is.0)) 0 gs numbers)) same
-                    (programming.programmed_none_named gs numbers r is.0 here (withdrawing.none_named_but gs (value_of r) v.unnamed));
-                named = subst (λ m. HaveShort (row_after Everyone (Program (Some is.0)) 0 gs numbers) m is.0) same (short_given gs numbers r is.0 here);
-                address = is.1;
-                reserved = subst (λ m. Has k.reserved (is.0, m)) same is.2;
-                more = v.more;
-                visited = visited_on n gs (row_after Everyone (Program (Some is.0)) 0 gs numbers) v.more v.visited
-                    (λ m. programming.programmed_wants gs numbers r is.0 m here) (programming.programmed_count gs numbers r is.0 here);
-                frames = less.2;
-              },
-            ),
-          )
-visits_sent _ k x n gs numbers left c h v is taken seek = absurd v.stage_is
+    enough : VisitFrames k n v.more (left + 4) → 7 + search_frames v.more ≤ left + 4
+    enough (inl e) = e.1
+    enough (inr e) = omega (arith, e)
 
 named_sent : (r : SearchAddress) (a : ℕ) (k : Kept) (x : Search) (n : SearchAddress) (gs : List Gear) (numbers : List ℕ) (left : ℕ) (h : Answer)
     → Names (stage.Programmed r a) r a k n gs left → IsTaken QueryShort gs numbers h → Seek gs r
@@ -386,14 +343,25 @@ withdraw_sent r a k x n gs numbers left h v seek =
 
 visiting_sent : (s : Stage) (k : Kept) (x : Search) (n : SearchAddress) (gs : List Gear) (numbers : List ℕ) (left : ℕ) (c : Command) (h : Answer)
     → VisitsAt s k n gs left → Sends Visiting n k s c → IsTaken c gs numbers h → Seeks s gs → IsSentTo Visiting s k true x n gs numbers left c h
-visiting_sent (stage.Programmed r a) k x n gs numbers left c h v is taken seek =
-    subst (λ d. IsTaken d gs numbers h → IsSentTo Visiting (stage.Programmed r a) k true x n gs numbers left d h) (some_is QueryShort c is)
-    (λ t. named_sent r a k x n gs numbers left h v t (seek r refl)) taken
-visiting_sent (stage.Confirmed r a) k x n gs numbers left c h v is taken seek =
-    subst (λ d. IsSentTo Visiting (stage.Confirmed r a) k true x n gs numbers left d h) (some_is Withdraw c is)
-    (withdraw_sent r a k x n gs numbers left h v (seek r refl))
-visiting_sent (stage.Withdrawn r a) k x n gs numbers left c h v is taken seek = absurd (cc)
-visiting_sent s k x n gs numbers left c h v is taken seek = visits_sent s k x n gs numbers left c h v is taken seek
+visiting_sent s k x n gs numbers left c h v is taken seek =
+    visit_by (λ t d. VisitsAt t k n gs left → IsTaken d gs numbers h → Seeks t gs → IsSentTo Visiting t k true x n gs numbers left d h) n k gs left
+    (λ w to by. visit_next stage.Free (stage.HighSent n.high) k x n gs _ left w (leaving.core_after (SearchHigh n.high) gs numbers tt) tt refl refl
+    (omega arith))
+    (λ high w to by. visit_next (stage.HighSent high) (stage.MiddleSent high n.middle) k x n gs _ left w
+    (leaving.core_after (SearchMiddle n.middle) gs numbers tt) tt (w.searched, refl) refl (omega arith))
+    (λ high middle w to by. visit_next (stage.MiddleSent high middle) (stage.NumberSent (record { high = high; middle = middle; low = n.low }))
+    k x n gs _ left w
+    (leaving.core_after (SearchLow n.low) gs numbers tt) tt (whole n high middle w.searched.0 w.searched.1) refl (omega arith))
+    (λ r w to by.
+    let heard : h ≡ Byte (program_data None) =
+    visit_heard gs n r w.more None h w.visited w.searched (by r refl) (to.apart w.ready)
+    (λ i there on active enabled random. w.unnamed i there on enabled) to.heard in
+    let there : queried r h ≡ stage.Unnamed r = ap (queried r) heard ∙ mask_queried r in
+    rw there (visit_next (stage.NumberSent r) (stage.Unnamed r) k x n gs _ left w (leaving.core_after QueryShort gs numbers tt) tt w.searched refl
+    (omega arith)))
+    (λ r a small has w to by. given_sent r a k x n gs numbers left h w small has (by r refl))
+    (λ r a w to by. named_sent r a k x n gs numbers left h w to (by r refl)) (λ r a w to by. withdraw_sent r a k x n gs numbers left h w (by r refl))
+    s c v is v taken seek
 
 -- ---------------------------------------------------------------- the close
 

@@ -1,14 +1,8 @@
-use Rattle.std.proofs.Common.{◌≡◌, ℕ, ◌<◌, ◌≤◌, ◌⊎◌, inl, inr, true, List, ◌++◌, refl, sym, subst, ◌∙◌, length, Option, Some, None}
-use Rattle.std.specs.List.{count_by}
-use Rattle.dali_frame.specs.declared.frames.{Answer.Answer, Forward.Forward}
-use Rattle.dali_special.specs.{Command.command_of, declared.command.Command.Command}
-use Rattle.dali_gear.specs.{Gear.Gear, Row.row_after, Row.drawn_of, Row.stored_of, declared.row.Reach.TheVariants.Everyone}
-use Rattle.dali_script.specs.{Records.Assignment, Records.Has, Records.InBlock, declared.block.Block.Block}
-use Rattle.dali_events.specs.{Allowed.Allowed, Plan.block_at, Runs.IsRun, Wanted.gear_of, Wanted.is_bare, World.World, World.controller_at}
-use Rattle.dali_events.proofs.Invariant.{Gifts.Change, Gifts.Given, Safe.Holds, Safe.holds_after, Safe.sent_changes}
-use Rattle.dali_events.proofs.Search.Wanted.{after_at, count_at_most, is_bare_by, bare_is}
+use Rattle.dali_progress.proofs.Below.{◌≡◌, ℕ, ◌<◌, ◌≤◌, ◌⊎◌, inl, inr, true, List, ◌++◌, refl, sym, subst, ◌∙◌, length, Option, Some, None, count_by, Answer}
+use Rattle.dali_progress.proofs.Below.{Forward, command_of, Command, Gear, row_after, drawn_of, stored_of, Everyone, Assignment, Has, InBlock, Block, Allowed}
+use Rattle.dali_progress.proofs.Below.{block_at, IsRun, gear_of, is_bare, World, controller_at, Change, Given, Holds, holds_after, sent_changes, after_at}
+use Rattle.dali_progress.proofs.Below.{count_at_most, is_bare_by, bare_is, SiteState, world, records_now}
 use Rattle.dali_events.specs.declared.event.Event.TheVariants as event
-use Rattle.dali_world.{specs.Site.SiteState, specs.Site.world, proofs.Logs.records_now}
 use Rattle.dali_progress.proofs.{Both.has_address, Logged.kept_now}
 
 -- WHO IS GIVEN A SHORT ADDRESS by one controller: gear with power that have none, and each an address of the controller's

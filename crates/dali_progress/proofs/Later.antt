@@ -1,13 +1,8 @@
-use Rattle.std.proofs.Common.{◌≡◌, ℕ, refl, sym, ap, ◌∙◌, Some, None, Bool, true, false, Option, ◌==◌, if◌then◌else◌}
-use Rattle.dali_frame.specs.{Priority.LATER, Short.short_of, declared.frames.Answer.Answer}
-use Rattle.dali_frame.specs.declared.frames.Answer.TheVariants.{Silence, Byte, Damaged}
-use Rattle.dali_frame.specs.declared.{frames.Forward.Forward, numbers.SearchAddress.SearchAddress}
-use Rattle.dali_special.specs.{Command.MASK, declared.command.Command.Command}
-use Rattle.dali_script.specs.Stages.{stage_of, named, queried, answered, verified}
-use Rattle.dali_script.specs.declared.{orders.Order.TheVariants.Put, stage.Stage.Stage}
+use Rattle.dali_progress.proofs.Below.{◌≡◌, ℕ, refl, sym, ap, ◌∙◌, Some, None, Bool, true, false, Option, ◌==◌, if◌then◌else◌, LATER, short_of, Answer, Silence}
+use Rattle.dali_progress.proofs.Below.{Byte, Damaged, Forward, SearchAddress, MASK, Command, stage_of, named, queried, verified, Put, Stage, Course, turn_of}
+use Rattle.dali_progress.proofs.Below.{Machine, course_on, asked_on, machine_ordered, asked_by, Purpose, Asking, Hunting}
+use Rattle.dali_script.specs.Stages.{answered}
 use Rattle.dali_script.specs.declared.stage.Stage.TheVariants as stage
-use Rattle.dali_controller.specs.{Course.Course, Course.turn_of, Machine.Machine, Next.course_on, Next.asked_on, Orders.machine_ordered, Orders.asked_by}
-use Rattle.dali_controller.specs.declared.purpose.Purpose.{Purpose, TheVariants.Asking, TheVariants.Hunting}
 
 -- A LATER FRAME LEAVES THE COURSE, but for the next question of a hunt.
 

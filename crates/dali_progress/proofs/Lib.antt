@@ -1,3 +1,4 @@
+mod Below
 mod Later
 mod Lone
 mod Logged
@@ -9,14 +10,10 @@ mod Gives
 mod Along
 mod Drawing
 mod Start
-mod Giving
 mod Session
 mod Playing
 mod Needed
-mod LatePower
-mod Numberless
 mod Another
-mod AnotherTerminates
 mod Accounted
 mod Spared
 mod Census

@@ -1,15 +1,9 @@
-use Rattle.std.proofs.Common.{◌≡◌, ℕ, ◌<◌, zero, suc, List, [], ◌∷◌, refl, ap, ◌∙◌, arith, length, get_or, get_or-set_same, Option, Some, None, subst}
-use Rattle.std.{proofs.Common.slice_index_or, specs.Option.option_map}
-use Rattle.dali_script.specs.{Records.IsKept, Records.InBlock, declared.block.Block.Block, declared.orders.Input.Input, declared.orders.Order.Order}
-use Rattle.dali_controller.specs.{Machine.Machine, Orders.machine_after}
-use Rattle.dali_events.specs.{Allowed.Allowed, Allowed.IsUp, Happens.happens, Plan.Plan, Plan.IsPlan, Plan.no_block, Runs.IsRun, Runs.AreDrawn, Runs.LeavesUsed}
-use Rattle.dali_events.specs.{World.controller_at, World.start, declared.event.Event.Event}
-use Rattle.dali_events.proofs.Invariant.{Drawn.are_drawn, Drawn.draws_after, Growing.after_more, Growing.run_more}
+use Rattle.dali_progress.proofs.Below.{◌≡◌, ℕ, ◌<◌, zero, suc, List, [], ◌∷◌, refl, ap, ◌∙◌, arith, length, get_or, get_or-set_same, Option, Some, None, subst}
+use Rattle.dali_progress.proofs.Below.{slice_index_or, option_map, IsKept, InBlock, Block, Input, Order, Machine, machine_after, Allowed, IsUp, happens, Plan}
+use Rattle.dali_progress.proofs.Below.{IsPlan, no_block, IsRun, AreDrawn, LeavesUsed, controller_at, start, Event, are_drawn, draws_after, after_more, run_more}
+use Rattle.dali_progress.proofs.Below.{machine_in, machines_at, machines_after, SiteState, opened_site, world, site_logged, machines, machine_at, machines_more}
+use Rattle.dali_progress.proofs.Below.{records_now, ByStart, BeginsAlone}
 use Rattle.dali_events.specs.declared.event.Event.TheVariants as event
-use Rattle.dali_standing.specs.Standing.{machine_in, machines_at, machines_after}
-use Rattle.dali_world.specs.Site.{SiteState, opened_site, world, site_logged, machines, machine_at}
-use Rattle.dali_world.proofs.Logs.{machines_more, records_now}
-use Rattle.dali_progress.specs.Rounds.{ByStart, BeginsAlone}
 
 -- A NEW SITE, and a site with one event more.
 

@@ -1,20 +1,11 @@
-use Rattle.std.proofs.Common.{◌≡◌, ℕ, ◌<◌, ◌⊎◌, inl, inr, Bool, true, false, List, [], ◌∷◌, ◌++◌, refl, sym, ap, subst, ◌∙◌, arith, length-set, get_or-set_same}
-use Rattle.std.proofs.Common.{Option, Some, None, ◌==◌, if◌then◌else◌}
-use Rattle.std.proofs.lemmas.Bool.Decides.{nat_tests}
-use Rattle.dali_frame.specs.{Priority.FIRST, Priority.LATER, declared.frames.Answer.Answer, declared.frames.Forward.Forward}
-use Rattle.dali_special.specs.Command.{command_of}
-use Rattle.dali_arbiter.specs.{Arbiter.Arbiter, Arbiter.idle, Arbiter.total, Arbiter.next, Arbiter.request_of, declared.request.Request.Request}
-use Rattle.dali_script.specs.{Due.frame_put, declared.orders.End.End, declared.orders.Fault.Fault, declared.orders.Input.Input, declared.orders.Order.Order}
-use Rattle.dali_script.specs.declared.orders.Order.TheVariants.{Put, Commit, Done, Halt}
-use Rattle.dali_script.specs.declared.{records.Record.Record, trace.Entry.Entry}
+use Rattle.dali_progress.proofs.Below.{◌≡◌, ℕ, ◌<◌, ◌⊎◌, inl, inr, Bool, true, false, List, [], ◌∷◌, ◌++◌, refl, sym, ap, subst, ◌∙◌, arith, length-set}
+use Rattle.dali_progress.proofs.Below.{get_or-set_same, Option, Some, None, ◌==◌, if◌then◌else◌, nat_tests, FIRST, LATER, Answer, Forward, command_of, Arbiter}
+use Rattle.dali_progress.proofs.Below.{idle, total, next, request_of, Request, frame_put, End, Fault, Input, Order, Put, Commit, Done, Halt, Record, Entry}
+use Rattle.dali_progress.proofs.Below.{Machine, machine_heard, machine_told, machine_after, Allowed, IsUp, IsDue, IsCommit, MayOrder, happens, entry}
+use Rattle.dali_progress.proofs.Below.{controller_informed, controller_acted, outstanding_told, outstanding_after, kept_after, bus_acted, gives_up, told_sent}
+use Rattle.dali_progress.proofs.Below.{trace_running, goes_on, sent_by, is_arc, World, Controller, controller_at, nobody, Succeeds}
 use Rattle.dali_script.specs.declared.orders.Input.TheVariants as input
-use Rattle.dali_controller.specs.{Machine.Machine, Machine.machine_heard, Machine.machine_told, Orders.machine_after}
-use Rattle.dali_events.specs.Allowed.{Allowed, IsUp, IsDue, IsCommit, MayOrder}
-use Rattle.dali_events.specs.Happens.{happens, entry, controller_informed, controller_acted, outstanding_told, outstanding_after, kept_after, bus_acted}
-use Rattle.dali_events.specs.Happens.{gives_up, told_sent, trace_running, goes_on, sent_by, is_arc}
-use Rattle.dali_events.specs.World.{World, Controller, controller_at, nobody}
 use Rattle.dali_events.specs.declared.event.Event.TheVariants as event
-use Rattle.dali_progress.specs.Rounds.{Succeeds}
 
 -- ONE CONTROLLER ALONE ON THE BUS. What waits on the bus, what was told and what is to come go together with the
 -- last order of its machine.

@@ -1,16 +1,12 @@
-use Rattle.std.proofs.Common.{◌≡◌, ℕ, List, [], ◌∷◌, ◌++◌, refl, lit<, Some, None, false}
-use Rattle.dali_special.specs.Command.{command_of, frame}
-use Rattle.dali_gear.specs.{Row.answers_of, declared.row.Reach.TheVariants.Everyone}
-use Rattle.dali_script.specs.Stages.{stage_of}
-use Rattle.dali_events.specs.{Plan.Plan, Plan.IsPlan, World.start, declared.event.Event.Event}
-use Rattle.dali_events.proofs.{Histories.Tested.allowed_by, Plans.plan_is}
+use Rattle.dali_progress.proofs.Below.{◌≡◌, ℕ, List, [], ◌∷◌, ◌++◌, refl, lit<, Some, None, false, true, sym, ap, subst, ◌∙◌, arith, command_of, frame}
+use Rattle.dali_progress.proofs.Below.{answers_of, Everyone, stage_of, End, Input, Plan, IsPlan, start, controller_at, Event, happens, Allowed, IsDue, HasDraws}
+use Rattle.dali_progress.proofs.Below.{allowed_by, plan_is, leaves_none, machines_at, SiteState, world, site_logged, machines, next_request, Rounds, site_after}
+use Rattle.dali_progress.proofs.Below.{ByStart, BeginsAlone, IsOfRound, HasEnded, Forward, request_of, Request}
 use Rattle.dali_events.specs.declared.event.Event.TheVariants as event
-use Rattle.dali_standing.specs.Standing.{machines_at}
-use Rattle.dali_world.specs.Site.{SiteState, world, site_logged, machines}
-use Rattle.dali_progress.specs.Rounds.{Rounds, site_after, ByStart, BeginsAlone}
-use Rattle.dali_progress.proofs.{Logged.begins_new, Playing.Plays, Playing.rounds_by, Playing.plays_by, Playing.BreaksEnd}
-use Rattle.dali_progress.proofs.Session.{block, opening, searching, compare, ending, given_first, given_initialise, given_initialise_again, given_randomise}
-use Rattle.dali_progress.proofs.Session.{given_randomise_again, given_high, given_middle, given_low, given_compare, given_close, given_done}
+use Rattle.dali_script.specs.declared.orders.Input.TheVariants as input
+use Rattle.dali_progress.proofs.{Logged.begins_new, Playing.{Plays, rounds_by, plays_by, BreaksEnd}, Session.{block, opening, searching, compare, ending}}
+use Rattle.dali_progress.proofs.Session.{given_first, given_initialise, given_initialise_again, given_randomise, given_randomise_again, given_high}
+use Rattle.dali_progress.proofs.Session.{given_middle, given_low, given_compare, given_close, given_done, up_to_draw}
 
 -- UNDISTURBED MATTERS. Short histories of one controller that starts alone, in which all events but
 -- one are of rounds; it ends with all-found, and a gear that has power has no short address. The gear
@@ -93,4 +89,118 @@ initialisation_expires = record {
   afterwards = rounds_by (site_logged (site_after site up_to_compare) (event.Expired 0)) 0 (compare ∷ ending) refl expired_ending;
   ended = refl;
   untrue = λ all. let short = all 0 (lit< tt) refl in no_short short.0 short.1;
+}
+
+-- POWER MATTERS. One gear, which has no power when the controller starts alone, and one controller. All
+-- events are of rounds, up to the end with all-found; then the gear gets power, and it has no short
+-- address.
+
+abbrev pub dark_site : SiteState
+dark_site = record { plan = plan; queue = 8; room = 64; log = event.Power 0 false ∷ [] }
+
+starts_dark : BeginsAlone ByStart dark_site 0
+starts_dark = (
+  record {
+    run = record { plan = is_plan; allowed = (tt, tt); leaves = (leaves_none plan (event.Power 0 false) refl, tt) };
+    up = record { known = lit< tt; up = refl };
+    told = refl;
+    last = refl;
+    machine = refl;
+    bus = refl;
+    trace = refl;
+  },
+  refl,
+)
+
+-- an opening, a COMPARE under FFFFFE, and a close
+abbrev pub whole_session : List Event
+whole_session = up_to_compare ++ (compare ∷ ending)
+
+session_plays : Plays (happens (start plan 8) (event.Power 0 false)) (machines_at 0 (block ∷ [])) 0 whole_session
+unfolding command_of stage_of
+session_plays = plays_by (happens (start plan 8) (event.Power 0 false)) (machines_at 0 (block ∷ [])) 0 whole_session refl (
+  given_first,
+  (
+    given_initialise,
+    (
+      given_initialise_again,
+      (given_randomise, (given_randomise_again, (given_high, (given_middle, (given_low, (given_compare, (given_close, (given_done, tt)))))))),
+    ),
+  ),
+)
+
+pub power_comes_late : BreaksEnd dark_site 0 whole_session (event.Power 0 true) []
+unfolding command_of stage_of
+power_comes_late = record {
+  starts = starts_dark;
+  before = rounds_by dark_site 0 whole_session refl session_plays;
+  allowed = tt;
+  afterwards = tt;
+  ended = refl;
+  untrue = λ all. let short = all 0 (lit< tt) refl in no_short short.0 short.1;
+}
+
+-- NUMBERS TO DRAW MATTER. One gear, no number that it could draw, and one controller that starts alone.
+-- All events are of rounds; then the second RANDOMISE is next, and may not be sent.
+
+-- no round goes on from there, though the controller has not ended
+pub record IsStuck (s : SiteState) (c : ℕ) (es : List Event) : Type 0 where
+  pub starts : BeginsAlone ByStart s c
+  pub rounds : Rounds false s c es
+  pub unended : (e : End) → HasEnded (site_after s es) c e → ⊥
+  pub stuck : (e : Event) → Allowed (world (site_after s es)) e → IsOfRound false (site_after s es) c e → ⊥
+
+abbrev pub numberless : Plan
+numberless = record { gear = 1; blocks = block ∷ []; draws = []; used = [] }
+
+abbrev pub spent_site : SiteState
+spent_site = record { plan = numberless; queue = 8; room = 64; log = [] }
+
+starts_spent : BeginsAlone ByStart spent_site 0
+starts_spent = begins_new numberless 8 64 block (plan_is 1 ((0, 3) ∷ []) [] refl) refl
+
+-- an opening, up to the order to send RANDOMISE again
+before_draw : Plays (start numberless 8) (machines_at 0 (block ∷ [])) 0 up_to_draw
+unfolding command_of stage_of
+before_draw = plays_by (start numberless 8) (machines_at 0 (block ∷ [])) 0 up_to_draw refl
+    (given_first, (given_initialise, (given_initialise_again, (given_randomise, (given_randomise_again, tt)))))
+
+some_same : {A : Type 0} (x y : A) → Some x ≡ Some y → x ≡ y
+some_same x y same = cc
+
+not_due : (i : Input) → IsDue (controller_at (world (site_after spent_site up_to_draw)) 0) i → ⊥
+unfolding command_of stage_of
+not_due input.Committed due = due
+not_due input.CommitFailed due = due
+not_due _ due = cc
+
+no_draws : HasDraws (world (site_after spent_site up_to_draw)) Everyone (frame 0xA7 0) → ⊥
+unfolding command_of stage_of
+no_draws draws = omega (arith, draws)
+
+next_is : next_request (site_after spent_site up_to_draw) ≡ Some (request_of 0 1 (frame 0xA7 0))
+unfolding command_of stage_of
+next_is = refl
+
+not_sent : (r : Request) (f : Forward) → next_request (site_after spent_site up_to_draw) ≡ Some r → f ≡ r.frame
+    → HasDraws (world (site_after spent_site up_to_draw)) Everyone f → ⊥
+not_sent r f is same draws =
+    no_draws (subst (λ g. HasDraws (world (site_after spent_site up_to_draw)) Everyone g)
+    (same ∙ ap (λ (q : Request). q.frame) (some_same r (request_of 0 1 (frame 0xA7 0)) (sym is ∙ next_is))) draws)
+
+no_round : (e : Event) → Allowed (world (site_after spent_site up_to_draw)) e → IsOfRound false (site_after spent_site up_to_draw) 0 e → ⊥
+no_round (event.Acted d i o) allowed of = not_due i (subst (λ n. IsDue (controller_at (world (site_after spent_site up_to_draw)) n) i) of.0 allowed.due)
+no_round (event.Sent d f h) allowed of = not_sent of.0 f of.1 of.3 allowed.draws
+no_round _ allowed of = of
+
+unended : (e : End) → HasEnded (site_after spent_site up_to_draw) 0 e → ⊥
+unfolding command_of stage_of
+unended e ended = cc
+
+pub no_number_is_left : IsStuck spent_site 0 up_to_draw
+no_number_is_left = record {
+  starts = starts_spent;
+  rounds = rounds_by spent_site 0 up_to_draw refl before_draw;
+  unended = unended;
+  stuck = no_round;
 }

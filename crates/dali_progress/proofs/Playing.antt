@@ -1,19 +1,11 @@
-use Rattle.std.proofs.Common.{◌≡◌, ℕ, Bool, true, false, List, [], ◌∷◌, ◌++◌, refl, sym, subst, ap₂, Option, Some, None, ◌==◌, ◌&&◌}
-use Rattle.dali_frame.specs.declared.frames.{Answer.Answer, Answer.TheVariants.Silence, Forward.Forward}
-use Rattle.dali_special.specs.Command.{command_of, frame}
-use Rattle.dali_gear.specs.{Row.answers_of, Row.heard_of, declared.row.Reach.TheVariants.Everyone}
-use Rattle.dali_arbiter.specs.{Arbiter.next, declared.request.Request.Request}
-use Rattle.dali_script.specs.declared.orders.{End.TheVariants.AllFound, Input.Input}
-use Rattle.dali_script.proofs.{Giving.first_of_both, Giving.second_of_both, Transactions.equal}
+use Rattle.dali_progress.proofs.Below.{◌≡◌, ℕ, Bool, true, false, List, [], ◌∷◌, ◌++◌, refl, sym, subst, ap₂, Option, Some, None, ◌==◌, ◌&&◌, Answer, Silence}
+use Rattle.dali_progress.proofs.Below.{Forward, command_of, frame, answers_of, heard_of, Everyone, next, Request, AllFound, Input, first_of_both}
+use Rattle.dali_progress.proofs.Below.{second_of_both, equal, Machine, Allowed, happens, World, start, Event, is_allowed, allowed_by, after_more, leaves_none}
+use Rattle.dali_progress.proofs.Below.{MayAnswer, machine_in, machines_at, machines_after, SiteState, world, site_logged, machines, machines_more, IsTrueEnd}
+use Rattle.dali_progress.proofs.Below.{Succeeds, IsOfRound, Rounds, site_after, HasEnded, ByStart, BeginsAlone}
 use Rattle.dali_script.specs.declared.orders.Input.TheVariants as input
-use Rattle.dali_controller.specs.Machine.{Machine}
-use Rattle.dali_events.specs.{Allowed.Allowed, Happens.happens, World.World, World.start, declared.event.Event.Event}
-use Rattle.dali_events.proofs.{Histories.Tested.is_allowed, Histories.Tested.allowed_by, Invariant.Growing.after_more, Invariant.Growing.leaves_none}
 use Rattle.dali_events.specs.declared.event.Event.TheVariants as event
-use Rattle.dali_standing.specs.{Seats.MayAnswer, Standing.machine_in, Standing.machines_at, Standing.machines_after}
-use Rattle.dali_world.{specs.Site.SiteState, specs.Site.world, specs.Site.site_logged, specs.Site.machines, proofs.Logs.machines_more}
-use Rattle.dali_progress.specs.{Ends.IsTrueEnd, Rounds.Succeeds, Rounds.IsOfRound, Rounds.Rounds, Rounds.site_after, Rounds.HasEnded, Rounds.ByStart}
-use Rattle.dali_progress.{specs.Rounds.BeginsAlone, proofs.Beginnings.ends}
+use Rattle.dali_progress.proofs.{Beginnings.ends}
 
 -- WHAT A SHORT HISTORY SHOWS that breaks what is proved of one controller alone.
 

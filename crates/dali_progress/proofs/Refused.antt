@@ -1,31 +1,21 @@
-use Rattle.std.proofs.Common.{◌≡◌, ℕ, ◌+◌, ◌<◌, ◌≤◌, ◌⊎◌, inl, inr, Bool, true, false, zero, suc, List, [], ◌∷◌, ◌++◌, refl, sym, ap, subst, ◌∙◌, arith, length}
-use Rattle.std.proofs.Common.{Option, Some, None, if◌then◌else◌, is_some}
-use Rattle.std.proofs.lemmas.List.{length_push, Sums.count_by-le-length}
-use Rattle.dali_gear.specs.Gear.{Gear}
-use Rattle.dali_arbiter.specs.Arbiter.{total}
-use Rattle.dali_script.specs.{Due.due_after, Records.Kept, Records.InBlock, declared.block.Block.Block, declared.orders.Due.Due, declared.orders.Input.Input}
-use Rattle.dali_script.specs.declared.orders.Order.{Order, TheVariants.Put, TheVariants.Commit, TheVariants.Done, TheVariants.Halt}
-use Rattle.dali_script.specs.declared.records.Record.{Record, TheVariants.Reserve}
+use Rattle.dali_progress.proofs.Below.{◌≡◌, ℕ, ◌+◌, ◌<◌, ◌≤◌, ◌⊎◌, inl, inr, Bool, true, false, zero, suc, List, [], ◌∷◌, ◌++◌, refl, sym, ap, subst, ◌∙◌}
+use Rattle.dali_progress.proofs.Below.{arith, length, Option, Some, None, if◌then◌else◌, is_some, length_push, count_by-le-length, Gear, total, due_after, Kept}
+use Rattle.dali_progress.proofs.Below.{InBlock, Block, Due, Input, Order, Put, Commit, Done, Halt, Record, Reserve, Machine, machine_told}
+use Rattle.dali_progress.proofs.Below.{IsGiven as IsOrderGiven, IsDue, IsCommit, Plan, IsPlan, block_at, IsRun, is_bare, World, Controller, controller_at}
+use Rattle.dali_progress.proofs.Below.{Event, start_count, stands, due_of, ReservesUsed, MayAnswer, Refusal, SiteState, world, site_logged, opened_site}
+use Rattle.dali_progress.proofs.Below.{IsBarred, IsActRefused, IsPumpRefused, records_now, Installation, installation_of, HasNoneBy, IsGoRefused, controller}
+use Rattle.dali_progress.proofs.Below.{has_turn, has_turn_by, IsTurn, Turns, IsTurnRefused, IsRoundOf, controllers, Ran, site_after, most_events, Beginning}
+use Rattle.dali_progress.proofs.Below.{Rounds, by_survey, ByStart, BySurvey, bare, BeginsAlone, WasRefused, HasEndedBy, HasBegun, begun, HasNoneUsed}
+use Rattle.dali_progress.proofs.Below.{SparesUsed, SparesUsedOf, HasRoom, RanAlone, HavePower}
+use Rattle.dali_replay.specs.Installation.{IsGiven, IsGivenBy}
 use Rattle.dali_script.specs.declared.orders.Due.TheVariants as due
 use Rattle.dali_script.specs.declared.orders.Input.TheVariants as input
-use Rattle.dali_controller.specs.{Machine.Machine, Machine.machine_told, Orders.IsGiven as IsOrderGiven}
-use Rattle.dali_events.specs.{Allowed.IsDue, Allowed.IsCommit, Plan.Plan, Plan.IsPlan, Plan.block_at, Runs.IsRun, Wanted.is_bare, World.World, World.Controller}
-use Rattle.dali_events.{specs.World.controller_at, specs.declared.event.Event.Event, proofs.Invariant.Starting.start_count, proofs.Invariant.Starting.stands}
 use Rattle.dali_events.specs.declared.trouble.Trouble.TheVariants as trouble
-use Rattle.dali_standing.specs.{Seats.due_of, Seats.ReservesUsed, Seats.MayAnswer, declared.refusal.Refusal.Refusal}
 use Rattle.dali_standing.specs.declared.refusal.Refusal.TheVariants as refusal
-use Rattle.dali_world.specs.Site.{SiteState, world, site_logged, opened_site, IsBarred, IsActRefused, IsPumpRefused}
-use Rattle.dali_world.proofs.Logs.{records_now}
-use Rattle.dali_replay.specs.Installation.{Installation, installation_of, IsGiven, IsGivenBy, HasNoneBy, IsGoRefused, controller}
-use Rattle.dali_replay.specs.Rounds.{has_turn, has_turn_by, IsTurn, Turns, IsTurnRefused, IsRoundOf, controllers, Ran}
 use Rattle.dali_replay.specs.declared.rounds.Round.TheVariants as round
-use Rattle.dali_progress.specs.Rounds.{site_after, most_events, Beginning, Rounds, by_survey, ByStart, BySurvey, bare, BeginsAlone}
-use Rattle.dali_progress.specs.Running.{WasRefused, HasEndedBy, HasBegun, begun, HasNoneUsed, SparesUsed, SparesUsedOf, HasRoom, RanAlone}
-use Rattle.dali_progress.specs.Spared.{HavePower}
-use Rattle.dali_progress.proofs.Beginnings.{IsAfter, after, few_events, never_spent, begins_so, alone_of}
-use Rattle.dali_progress.proofs.{Ended.one_begun, Ended.came_so, Ended.run_ends, Logged.begins_new, Lone.Moment, Lone.heard_free}
-use Rattle.dali_progress.proofs.Running.{Comes, comes_both, turn, turns_of, all_played, one_more, plan_after, Came}
-use Rattle.dali_progress.proofs.Spared.{Alone.alone_in_peace, Lives.told_block, Peace.unrefused_in_peace}
+use Rattle.dali_progress.proofs.{Beginnings.{IsAfter, after, few_events, never_spent, begins_so, alone_of}, Ended.{one_begun, came_so, run_ends}}
+use Rattle.dali_progress.proofs.{Logged.begins_new, Lone.{Moment, heard_free}, Running.{Comes, comes_both, turn, turns_of, all_played, one_more, plan_after}}
+use Rattle.dali_progress.proofs.{Running.Came, Spared.Alone.alone_in_peace, Spared.Lives.told_block, Spared.Peace.unrefused_in_peace}
 
 -- WHAT MAY BE REFUSED in a run of rounds on an installation with one controller.
 

@@ -1,24 +1,17 @@
-use Rattle.std.proofs.Common.{◌≡◌, ℕ, ◌+◌, ◌≤◌, ◌⊎◌, inl, inr, Bool, true, false, zero, suc, List, [], ◌∷◌, ◌++◌, refl, sym, ap, subst, ◌∙◌, arith, length}
-use Rattle.std.proofs.Common.{Option, Some, None, Ok, if◌then◌else◌, ◌||◌}
-use Rattle.dali_special.specs.Command.{command_of}
-use Rattle.dali_gear.specs.{Row.answers_of, Row.heard_of, declared.gear_set.GearSet.GearSet, declared.row.Reach.TheVariants.Everyone}
-use Rattle.dali_arbiter.specs.Arbiter.{collision}
-use Rattle.dali_script.specs.Due.{due_after}
-use Rattle.dali_script.specs.declared.orders.{Due.Due, Input.Input, Order.Order, Order.TheVariants.Commit}
+use Rattle.dali_progress.proofs.Below.{◌≡◌, ℕ, ◌+◌, ◌≤◌, ◌⊎◌, inl, inr, Bool, true, false, zero, suc, List, [], ◌∷◌, ◌++◌, refl, sym, ap, subst, ◌∙◌, arith}
+use Rattle.dali_progress.proofs.Below.{length, Option, Some, None, Ok, if◌then◌else◌, ◌||◌, command_of, answers_of, heard_of, GearSet, Everyone, collision}
+use Rattle.dali_progress.proofs.Below.{due_after, Due, Input, Order, Commit, IsDue, IsCommit, Plan, nobody_at_all, Controller, controller_at, Event}
+use Rattle.dali_progress.proofs.Below.{LeavesWhole, due_of, Report, SiteState, HasActed, Pumps, machine_at, world, site_logged, next_request, Installation}
+use Rattle.dali_progress.proofs.Below.{Goes, HasStepped, controller, has_turn, has_turn_by, IsTurn, Turns, controllers, is_sent, came_of, IsRound, Succeeds}
+use Rattle.dali_progress.proofs.Below.{Rounds, site_after, frames, begun}
+use Rattle.dali_replay.specs.Installation.{IsGiven, IsGivenBy}
 use Rattle.dali_script.specs.declared.orders.Due.TheVariants as due
 use Rattle.dali_script.specs.declared.orders.Input.TheVariants as input
-use Rattle.dali_events.specs.Allowed.{IsDue, IsCommit}
-use Rattle.dali_events.specs.{Plan.Plan, Troubles.nobody_at_all, World.Controller, World.controller_at, declared.event.Event.Event}
 use Rattle.dali_events.specs.declared.event.Event.TheVariants as event
 use Rattle.dali_events.specs.declared.trouble.Trouble.TheVariants as trouble
-use Rattle.dali_standing.specs.{Seats.LeavesWhole, Seats.due_of, declared.report.Report.Report}
 use Rattle.dali_standing.specs.declared.report.Report.TheVariants as report
-use Rattle.dali_world.specs.Site.{SiteState, HasActed, Pumps, machine_at, world, site_logged, next_request}
-use Rattle.dali_replay.specs.Installation.{Installation, Goes, HasStepped, IsGiven, IsGivenBy, controller}
-use Rattle.dali_replay.specs.Rounds.{has_turn, has_turn_by, IsTurn, Turns, controllers, is_sent, came_of, IsRound}
 use Rattle.dali_replay.specs.Rounds as replay
 use Rattle.dali_replay.specs.declared.rounds.Round.TheVariants as round
-use Rattle.dali_progress.specs.{Rounds.Succeeds, Rounds.Rounds, Rounds.site_after, Rounds.frames, Running.begun}
 
 -- A RUN OF ROUNDS on an installation with one controller is a list of events of rounds.
 

@@ -3,6 +3,5 @@ pub mod Bytes
 pub mod Counted
 pub mod Lives
 pub mod Calls
-pub mod Asked
 pub mod Peace
 pub mod Alone

@@ -1,19 +1,10 @@
-use Rattle.std.proofs.Common.{◌≡◌, ℕ, ◌+◌, ◌-◌, ◌*◌, ◌<◌, ◌≤◌, ◌⊎◌, Bool, true, false, zero, suc, List, ◌∷◌, length, Option, Some}
-use Rattle.std.specs.List.{count_by}
-use Rattle.dali_frame.specs.{Random.value_of, Random.MASK24, declared.frames.Answer.Answer, declared.numbers.SearchAddress.SearchAddress}
-use Rattle.dali_special.specs.declared.command.Command.{Command, TheVariants.Program}
-use Rattle.dali_gear.specs.Gear.{Gear, is_active}
-use Rattle.dali_script.specs.Records.{Assignment, Kept, Has, HasRandom}
-use Rattle.dali_script.specs.{Stages.IsSearched, Stages.IsTrace, Stages.stage_of, declared.orders.End.End, declared.stage.Stage.Stage}
+use Rattle.dali_progress.proofs.Below.{◌≡◌, ℕ, ◌+◌, ◌-◌, ◌*◌, ◌<◌, ◌≤◌, ◌⊎◌, Bool, true, false, zero, suc, List, ◌∷◌, length, Option, Some, sym, subst}
+use Rattle.dali_progress.proofs.Below.{count_by, value_of, MASK24, Answer, SearchAddress, Command, SearchHigh, SearchMiddle, SearchLow, QueryShort, Program}
+use Rattle.dali_progress.proofs.Below.{Withdraw, Gear, is_active, Assignment, Kept, Has, HasRandom, IsSearched, IsTrace, stage_of, End, Stage, Search, Agrees}
+use Rattle.dali_progress.proofs.Below.{Gives, IsNarrowing, Again, first_of, turn_of, sought, is_yes, byte_to_send, call_turn, Machine, AsksOn}
+use Rattle.dali_progress.proofs.Below.{Sends as SendsWhole, Purpose, Opening, Probing, Visiting, Closing, Hunting, Calling, Fresh, is_wanted, wants, is_bare}
+use Rattle.dali_progress.proofs.Below.{OfPowered, IsOpened, NoneNamed, NoneNamedBut, AreOpening, EndsWell, AreTabled}
 use Rattle.dali_script.specs.declared.stage.Stage.TheVariants as stage
-use Rattle.dali_search.specs.{Least.Search, Least.Agrees, Least.Gives, Narrowing.IsNarrowing, declared.step.Step.TheVariants.Again}
-use Rattle.dali_controller.specs.Course.{first_of, turn_of, sought, is_yes, byte_to_send, call_turn}
-use Rattle.dali_controller.specs.{Machine.Machine, Whole.AsksOn, Whole.Sends as SendsWhole, declared.purpose.Purpose.Purpose}
-use Rattle.dali_controller.specs.declared.purpose.Purpose.TheVariants.{Opening, Probing, Visiting, Closing, Hunting, Calling}
-use Rattle.dali_controller.specs.declared.way.Way.TheVariants.{Fresh}
-use Rattle.dali_events.specs.Wanted.{is_wanted, wants, is_bare, OfPowered, IsOpened, NoneNamed, NoneNamedBut}
-use Rattle.dali_events.proofs.Search.Opened.{AreOpening}
-use Rattle.dali_progress.specs.Ends.{EndsWell, AreTabled}
 
 -- HOW FAR COMMISSIONING IS, if nothing is disturbed: what is true of gear, records and search at each stage of the
 -- running transaction, and how many frames are left to be sent, at the most.
@@ -217,3 +208,29 @@ sends_of p n k stage.Free c is = is.0
 sends_of p n k (stage.Unnamed r) c (visits, same, (a, small, may, gives)) = (a, small, may.reserved_for, gives)
 sends_of p n k (stage.Hunted r last left) c is = asks_of p n r last left c is
 sends_of p n k _ c is = is.0
+
+-- A FRAME OF A VISIT, by its stage: a byte of the number, a question, the address, or that the gear is withdrawn.
+pub some_is : (x c : Command) → Some x ≡ Some c → x ≡ c
+some_is x c e = cc
+
+pub visit_by : (P : Stage → Command → Type 0) (n : SearchAddress) (k : Kept) (gs : List Gear) (left : ℕ) → P stage.Free (SearchHigh n.high)
+    → ((high : ℕ) → P (stage.HighSent high) (SearchMiddle n.middle)) → ((high middle : ℕ) → P (stage.MiddleSent high middle) (SearchLow n.low))
+    → ((r : SearchAddress) → P (stage.NumberSent r) QueryShort)
+    → ((r : SearchAddress) (a : ℕ) → a < 64 → Has k.reserved (a, value_of r) → P (stage.Unnamed r) (Program (Some a)))
+    → ((r : SearchAddress) (a : ℕ) → P (stage.Programmed r a) QueryShort) → ((r : SearchAddress) (a : ℕ) → P (stage.Confirmed r a) Withdraw)
+    → (s : Stage) (c : Command) → VisitsAt s k n gs left → Sends Visiting n k s c → P s c
+visit_by P n k gs left high middle low asked given asked_again withdrawn stage.Free c v is = subst (P stage.Free) (sym is) high
+visit_by P n k gs left high middle low asked given asked_again withdrawn (stage.HighSent one) c v is =
+    subst (P (stage.HighSent one)) (some_is (SearchMiddle n.middle) c is) (middle one)
+visit_by P n k gs left high middle low asked given asked_again withdrawn (stage.MiddleSent one two) c v is =
+    subst (P (stage.MiddleSent one two)) (some_is (SearchLow n.low) c is) (low one two)
+visit_by P n k gs left high middle low asked given asked_again withdrawn (stage.NumberSent r) c v is =
+    subst (P (stage.NumberSent r)) (some_is QueryShort c is) (asked r)
+visit_by P n k gs left high middle low asked given asked_again withdrawn (stage.Unnamed r) c v is =
+    subst (P (stage.Unnamed r)) (sym is.3) (given r is.0 is.1 is.2)
+visit_by P n k gs left high middle low asked given asked_again withdrawn (stage.Programmed r a) c v is =
+    subst (P (stage.Programmed r a)) (some_is QueryShort c is) (asked_again r a)
+visit_by P n k gs left high middle low asked given asked_again withdrawn (stage.Confirmed r a) c v is =
+    subst (P (stage.Confirmed r a)) (some_is Withdraw c is) (withdrawn r a)
+visit_by P n k gs left high middle low asked given asked_again withdrawn (stage.Withdrawn r a) c v is = absurd (cc)
+visit_by P n k gs left high middle low asked given asked_again withdrawn _ c v is = absurd v.stage_is

@@ -1,32 +1,20 @@
-use Rattle.std.proofs.Common.{◌≡◌, ℕ, ◌<◌, ◌⊎◌, inl, inr, Bool, true, false, List, refl, sym, ap, subst, ◌∙◌, arith, Some, None, w64, ◌+◌, ◌-◌, ◌≤◌, suc}
-use Rattle.std.proofs.Common.{length, Option, ◌==◌, if◌then◌else◌}
-use Rattle.std.proofs.lemmas.{Bool.Decides.nat_tests, Nat.Bits.bit_at_set_other, Nat.Bits.bit_at_clear_same, Nat.Bits.bit_at_clear_other}
-use Rattle.std.specs.{List.count_by, Prelude.unwrap_or}
-use Rattle.dali_frame.specs.Random.{number_of, high_of, middle_of, low_of, MASK24, value_of}
-use Rattle.dali_frame.specs.declared.frames.Answer.{Answer, TheVariants.Silence, TheVariants.Byte, TheVariants.Damaged}
-use Rattle.dali_frame.specs.declared.numbers.SearchAddress.{SearchAddress}
-use Rattle.dali_special.specs.declared.command.Command.{Command, TheVariants.QueryShort}
-use Rattle.dali_special.specs.declared.command.Command.TheVariants.{RandomByte, Terminate, Initialise, Randomise, Compare, SearchHigh, SearchMiddle, SearchLow}
-use Rattle.dali_special.specs.declared.command.{Part.Part, Part.TheVariants.High, Part.TheVariants.Middle, Part.TheVariants.Low, Target.TheVariants.Unaddressed}
-use Rattle.dali_gear.specs.Gear.{Gear, byte_at}
-use Rattle.dali_gear.specs.{Row.row_after, Row.answers_of, Row.heard_of, Row.draws_needed, Row.drawn_of, declared.row.Reach.TheVariants.Everyone}
-use Rattle.dali_script.specs.{Records.Assignment, Records.Kept, Records.Has, Scripts.CALLING, Stages.next_stage, declared.stage.Stage.Stage}
-use Rattle.dali_script.proofs.{Lists.has_map, Transactions.middle_next, Transactions.low_next}
+use Rattle.dali_progress.proofs.Below.{◌≡◌, ℕ, ◌<◌, ◌⊎◌, inl, inr, Bool, true, false, List, refl, sym, ap, subst, ◌∙◌, arith, Some, None, w64, ◌+◌, ◌-◌, ◌≤◌}
+use Rattle.dali_progress.proofs.Below.{suc, length, Option, ◌==◌, if◌then◌else◌, nat_tests, bit_at_set_other, bit_at_clear_same, bit_at_clear_other, count_by}
+use Rattle.dali_progress.proofs.Below.{unwrap_or, number_of, high_of, middle_of, low_of, MASK24, value_of, Answer, Silence, Byte, Damaged, SearchAddress}
+use Rattle.dali_progress.proofs.Below.{Command, QueryShort, RandomByte, Terminate, Initialise, Randomise, Compare, SearchHigh, SearchMiddle, SearchLow, Part}
+use Rattle.dali_progress.proofs.Below.{High, Middle, Low, Unaddressed, Gear, byte_at, row_after, answers_of, heard_of, draws_needed, drawn_of, Everyone}
+use Rattle.dali_progress.proofs.Below.{Assignment, Kept, Has, CALLING, next_stage, Stage, has_map, middle_next, low_next, is_yes, call_turn, sought, turn_of}
+use Rattle.dali_progress.proofs.Below.{marked_at, silent_after, has_short, with_short, without_short, Purpose, Asking, Calling, Drawing, Opening, Shorts}
+use Rattle.dali_progress.proofs.Below.{HasShort, gear_of, is_bare, OfPowered, SameCore, LeavesShort, SeekHigh, SeekMiddle, AreOpening, number_same, same_number}
+use Rattle.dali_progress.proofs.Below.{AreTabled}
 use Rattle.dali_script.specs.declared.stage.Stage.TheVariants as stage
-use Rattle.dali_controller.specs.Course.{is_yes, call_turn, sought, turn_of}
-use Rattle.dali_controller.specs.{Machine.marked_at, Machine.silent_after, Shorts.has_short, Shorts.with_short, Shorts.without_short}
-use Rattle.dali_controller.specs.declared.purpose.Purpose.{Purpose, TheVariants.Asking, TheVariants.Calling, TheVariants.Drawing, TheVariants.Opening}
-use Rattle.dali_controller.specs.declared.shorts.Shorts.{Shorts}
-use Rattle.dali_events.{specs.Searching.HasShort, specs.Wanted.gear_of, specs.Wanted.is_bare, specs.Wanted.OfPowered, proofs.Search.Leaving.SameCore}
-use Rattle.dali_events.proofs.Search.{Leaving.LeavesShort, Leaving.SeekHigh, Leaving.SeekMiddle, Opened.AreOpening, Wanted.number_same, Wanted.same_number}
 use Rattle.dali_events.proofs.Search.Leaving as leaving
 use Rattle.dali_events.proofs.Search.Opened as opening
-use Rattle.dali_progress.{specs.Ends.AreTabled, proofs.Frames.some_is, proofs.Frames.Seeks, proofs.Frames.value_sought, proofs.Stands.Sends}
-use Rattle.dali_progress.proofs.Survey.{Drawn.AreNumbered, Queried.Holds, Queried.OneGear, Queried.one_gear, Queried.Nobody, Queried.HasAnswered}
-use Rattle.dali_progress.proofs.Survey.{Queried.asked_gear, Queried.holds_on, Queried.holds_back, Queried.IsAtHand, Woken.AreLow, Woken.IsByteLow}
-use Rattle.dali_progress.proofs.Survey.Woken.{bare_after, undrawn_after, undrawn_once, stays_initialised, all_short, called_answer, low_after, leaves_short}
-use Rattle.dali_progress.proofs.{Survey.Woken.low_sent, Survey.Woken.nobody_searched, Tables.LeavesNames, Tables.tabled_left, Tables.StandsStill}
 use Rattle.dali_progress.proofs.Tables as tables
+use Rattle.dali_progress.proofs.{Stands.{some_is, Sends}, Frames.{Seeks, value_sought}, Survey.Drawn.AreNumbered, Survey.Queried.{Holds, OneGear, one_gear}}
+use Rattle.dali_progress.proofs.{Survey.Queried.{Nobody, HasAnswered, asked_gear, holds_on, holds_back, IsAtHand}, Survey.Woken.{AreLow, IsByteLow, bare_after}}
+use Rattle.dali_progress.proofs.Survey.Woken.{undrawn_after, undrawn_once, stays_initialised, all_short, called_answer, low_after, leaves_short, low_sent}
+use Rattle.dali_progress.proofs.{Survey.Woken.nobody_searched, Tables.{LeavesNames, tabled_left, StandsStill}}
 
 -- A SHORT ADDRESS IS ASKED for its random address, byte by byte: who told what was heard so far, and what is marked.
 

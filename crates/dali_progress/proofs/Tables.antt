@@ -1,19 +1,11 @@
-use Rattle.std.proofs.Common.{◌≡◌, ℕ, ◌<◌, ◌⊎◌, inl, inr, Bool, true, false, List, ◌∷◌, refl, sym, ap, subst, ◌∙◌, length, Some, ◌==◌}
-use Rattle.dali_frame.specs.{Random.value_of, declared.frames.Answer.Answer, declared.numbers.SearchAddress.SearchAddress}
-use Rattle.dali_special.specs.declared.command.Command.{Command, TheVariants.Terminate, TheVariants.Initialise}
-use Rattle.dali_special.specs.declared.command.Command.TheVariants.{Randomise, Compare, Withdraw, SearchHigh, SearchMiddle, SearchLow, Program, QueryShort}
-use Rattle.dali_special.specs.declared.command.Target.TheVariants.{Unaddressed}
-use Rattle.dali_gear.specs.{Gear.Gear, Gear.is_active, Gear.draws_a_number, Gear.gear_taken, Row.row_after, declared.row.Reach.TheVariants.Everyone}
-use Rattle.dali_script.specs.Records.{Assignment, Kept, Has}
-use Rattle.dali_script.specs.{Stages.next_stage, Stages.verified, declared.orders.End.End, declared.stage.Stage.Stage}
+use Rattle.dali_progress.proofs.Below.{◌≡◌, ℕ, ◌<◌, ◌⊎◌, inl, inr, Bool, true, false, List, ◌∷◌, refl, sym, ap, subst, ◌∙◌, length, Some, ◌==◌, value_of}
+use Rattle.dali_progress.proofs.Below.{Answer, SearchAddress, Command, Terminate, Initialise, Randomise, Compare, Withdraw, SearchHigh, SearchMiddle, SearchLow}
+use Rattle.dali_progress.proofs.Below.{Program, QueryShort, Unaddressed, Gear, is_active, draws_a_number, gear_taken, row_after, Everyone, Assignment, Kept}
+use Rattle.dali_progress.proofs.Below.{Has, next_stage, verified, End, Stage, Search, Purpose, Opening, Probing, Visiting, Closing, gear_of, OfPowered, Seek}
+use Rattle.dali_progress.proofs.Below.{row_length, AreOpening, after_at, same_number, number_same, AreTabled}
 use Rattle.dali_script.specs.declared.stage.Stage.TheVariants as stage
-use Rattle.dali_search.specs.Least.{Search}
-use Rattle.dali_controller.specs.declared.purpose.Purpose.{Purpose, TheVariants.Opening, TheVariants.Probing, TheVariants.Visiting, TheVariants.Closing}
-use Rattle.dali_events.{specs.Wanted.gear_of, specs.Wanted.OfPowered, specs.Wanted.Seek, proofs.Invariant.Takes.row_length, proofs.Search.Opened.AreOpening}
-use Rattle.dali_events.proofs.Search.Wanted.{after_at, same_number, number_same}
 use Rattle.dali_events.proofs.Search.Programming as programming
-use Rattle.dali_progress.{specs.Ends.AreTabled, proofs.Frames.Seeks, proofs.Later.verified_by}
-use Rattle.dali_progress.proofs.Stands.{to_come, Opens, VisitsAt, Probes, Closes, At, Sends}
+use Rattle.dali_progress.proofs.{Frames.Seeks, Later.verified_by, Stands.{to_come, Opens, VisitsAt, Probes, Closes, At, Sends, some_is, visit_by}}
 
 -- THE TABLE NAMES THE GEAR, while frames are sent. A gear that has a short address keeps it, with its random address;
 -- and the one that is given an address is the one whose entry is to come.
@@ -132,9 +124,6 @@ left_to before s n xs gs numbers c d h is leaves tabled =
     (tabled_over before xs (to_come (next_stage s d h) n xs) (row_after Everyone d 0 gs numbers) (come_more (next_stage s d h) n xs)
     (tabled_left before xs gs numbers d leaves tabled))
 
-some_is : (x c : Command) → Some x ≡ Some c → x ≡ c
-some_is x c e = cc
-
 opening_tabled : (before : List Gear) (s : Stage) (k : Kept) (opened : Bool) (n : SearchAddress) (gs : List Gear) (numbers : List ℕ) (left : ℕ) (c : Command)
     (h : Answer) → Opens s gs left → Sends Opening n k s c
     → AreTabled before (to_come s n k.enrolled) gs → IsTabledTo before s n k.enrolled gs numbers c h
@@ -175,32 +164,20 @@ visiting_tabled : (before : List Gear) (s : Stage) (k : Kept) (n : SearchAddress
     → VisitsAt s k n gs left → Sends Visiting n k s c → Seeks s gs
     → VisitsAt (next_stage s c h) k n (row_after Everyone c 0 gs numbers) rest → AreTabled before (to_come s n k.enrolled) gs
     → IsTabledTo before s n k.enrolled gs numbers c h
-visiting_tabled before stage.Free k n gs numbers left rest c h v is seek next tabled =
-    left_to before stage.Free n k.enrolled gs numbers c (SearchHigh n.high) h (sym is) tt tabled
-visiting_tabled before (stage.HighSent high) k n gs numbers left rest c h v is seek next tabled =
-    left_to before (stage.HighSent high) n k.enrolled gs numbers c (SearchMiddle n.middle) h (some_is (SearchMiddle n.middle) c is) tt tabled
-visiting_tabled before (stage.MiddleSent high middle) k n gs numbers left rest c h v is seek next tabled =
-    left_to before (stage.MiddleSent high middle) n k.enrolled gs numbers c (SearchLow n.low) h (some_is (SearchLow n.low) c is) tt tabled
-visiting_tabled before (stage.NumberSent r) k n gs numbers left rest c h v is seek next tabled =
-    left_to before (stage.NumberSent r) n k.enrolled gs numbers c QueryShort h (some_is QueryShort c is) tt tabled
-visiting_tabled before (stage.Unnamed r) k n gs numbers left rest c h v is seek next tabled =
-    subst (λ e. IsTabledTo before (stage.Unnamed r) n k.enrolled gs numbers e h) (sym is.3)
-    (subst (λ (m : SearchAddress). AreTabled before ((is.0, value_of m) ∷ k.enrolled) (row_after Everyone (Program (Some is.0)) 0 gs numbers)) (sym v.searched)
-    (tabled_given before k.enrolled gs numbers r is.0 (seek r refl) tabled))
-visiting_tabled before (stage.Programmed r a) k n gs numbers left rest c h v is seek next tabled =
-    subst (λ e. VisitsAt (next_stage (stage.Programmed r a) e h) k n (row_after Everyone e 0 gs numbers) rest
-    → IsTabledTo before (stage.Programmed r a) n k.enrolled gs numbers e h) (some_is QueryShort c is) go next where
-      go : VisitsAt (verified r a h) k n (row_after Everyone QueryShort 0 gs numbers) rest
-          → IsTabledTo before (stage.Programmed r a) n k.enrolled gs numbers QueryShort h
-      go at =
-          subst (λ q. AreTabled before (to_come q n k.enrolled) (row_after Everyone QueryShort 0 gs numbers))
-          (sym (confirmed r a h k n (row_after Everyone QueryShort 0 gs numbers) rest at))
-          (tabled_left before ((a, value_of n) ∷ k.enrolled) gs numbers QueryShort tt tabled)
-visiting_tabled before (stage.Confirmed r a) k n gs numbers left rest c h v is seek next tabled =
-    subst (λ e. IsTabledTo before (stage.Confirmed r a) n k.enrolled gs numbers e h) (some_is Withdraw c is)
-    (tabled_left before ((a, value_of n) ∷ k.enrolled) gs numbers Withdraw tt tabled)
-visiting_tabled before (stage.Withdrawn r a) k n gs numbers left rest c h v is seek next tabled = absurd (cc)
-visiting_tabled before _ k n gs numbers left rest c h v is seek next tabled = absurd v.stage_is
+visiting_tabled before s k n gs numbers left rest c h v is seek next tabled =
+    visit_by (λ t d. VisitsAt t k n gs left → Seeks t gs → VisitsAt (next_stage t d h) k n (row_after Everyone d 0 gs numbers) rest
+    → AreTabled before (to_come t n k.enrolled) gs → IsTabledTo before t n k.enrolled gs numbers d h) n k gs left
+    (λ w by on was. left_to before stage.Free n k.enrolled gs numbers _ (SearchHigh n.high) h refl tt was)
+    (λ high w by on was. left_to before (stage.HighSent high) n k.enrolled gs numbers _ (SearchMiddle n.middle) h refl tt was)
+    (λ high middle w by on was. left_to before (stage.MiddleSent high middle) n k.enrolled gs numbers _ (SearchLow n.low) h refl tt was)
+    (λ r w by on was. left_to before (stage.NumberSent r) n k.enrolled gs numbers _ QueryShort h refl tt was)
+    (λ r a small has w by on was. subst (λ (m : SearchAddress). AreTabled before ((a, value_of m) ∷ k.enrolled)
+    (row_after Everyone (Program (Some a)) 0 gs numbers))
+    (sym w.searched) (tabled_given before k.enrolled gs numbers r a (by r refl) was))
+    (λ r a w by on was. subst (λ q. AreTabled before (to_come q n k.enrolled) (row_after Everyone QueryShort 0 gs numbers))
+    (sym (confirmed r a h k n (row_after Everyone QueryShort 0 gs numbers) rest on))
+    (tabled_left before ((a, value_of n) ∷ k.enrolled) gs numbers QueryShort tt was))
+    (λ r a w by on was. tabled_left before ((a, value_of n) ∷ k.enrolled) gs numbers Withdraw tt was) s c v is v seek next tabled
 
 closing_tabled : (before : List Gear) (s : Stage) (k : Kept) (n : SearchAddress) (gs : List Gear) (numbers : List ℕ) (left : ℕ) (c : Command) (h : Answer)
     (e : End) → Closes e s k gs left → Sends (Closing e) n k s c

@@ -3,3 +3,4 @@ pub mod Drawn
 pub mod Ran
 pub mod Report
 pub mod Json
+pub mod Told

@@ -1,12 +1,10 @@
-use Rattle.std.specs.Prelude.{◌≡◌, ℕ, zero, suc, ◌+◌, List, [], ◌∷◌, ◌++◌, length, Bool, true}
+use Rattle.std.specs.Prelude.{ℕ, zero, suc, ◌+◌, List, [], ◌∷◌, ◌++◌, length, Bool, true}
 use Rattle.std.specs.Prelude.{false, Option, Some, None, codes, decimal}
-use Rattle.std.specs.Io.KnownBytes.{Appends}
 use Rattle.dali_script.specs.Names.{end_name, fault_name}
 use Rattle.dali_events.specs.World.{World, Controller, gear_at, controller_at}
 use Rattle.dali_world.specs.Site.{SiteState, world}
 use Rattle.dali_line.specs.declared.outcome.Outcome.{Outcome}
 use Rattle.dali_line.specs.declared.outcome.Outcome.TheVariants as outcome
-use Rattle.dali_threads.specs.Ran.{HaveRun}
 use Rattle.dali_replay.specs.Text.{table_text}
 use Rattle.dali_replay.specs.SiteReport.{gear_lines}
 
@@ -63,10 +61,3 @@ run_text outcomes s =
     ++ (gear_lines (world s) s.plan.gear
     ++ (tables_up (world s) (length s.plan.blocks)
     ++ addressed_text (addressed (world s) s.plan.gear) s.plan.gear))
-
--- WHAT WAS WRITTEN is the report of a run of so many controllers' workers, of so many turns each:
--- how they ended, and the site that their line gave back.
-abbrev pub Reports : ℕ → Bool → ℕ → Option (List ℕ) → Option (List ℕ) → Type 0
-Reports turns surveys controllers old new =
-    (outcomes : List Outcome) × (s : SiteState) × (length outcomes ≡ controllers)
-    × HaveRun turns surveys outcomes s × Appends old new (run_text outcomes s)

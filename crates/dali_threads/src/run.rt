@@ -1,12 +1,12 @@
 //! A run: a worker for each controller and a pumper, in threads of their own, over one line; and what is written of it.
 
 ghost use Rattle.std.specs.Prelude.{◌≡◌, ◌*◌, ◌<◌, ◌≤◌, [], None, Some, IfOk, OnOk, IfErr};
-ghost use Rattle.std.specs.Prelude.{IfSome, IsErrOf, false, length, map, vec_len};
+ghost use Rattle.std.specs.Prelude.{IfSome, IsErrOf, length, map, string_bytes, vec_len};
 ghost use Rattle.dali_events.specs.declared.plan.PlanError.{PlanError};
 ghost use Rattle.dali_events.specs.Plan.{plan_of, refusal_of};
 ghost use Rattle.dali_threads.specs.Drawn.{numbers_of};
 ghost use Rattle.dali_threads.specs.Ran.{HaveRun, IsRunOf};
-ghost use Rattle.dali_threads.specs.Report.{Reports};
+ghost use Rattle.dali_threads.specs.Told.{Tells, told_text};
 ghost use Rattle.dali_threads.specs.declared.setup.ThreadsFault.TheVariants.{BadPlan, Write};
 ghost use Rattle.std.specs.Io.KnownBytes.{Appends};
 
@@ -156,9 +156,8 @@ pub fn run_threads<R: Threads + Wait + Sync, W: Write>(
         (λ e. IsErrOf result (BadPlan e) × (writer.new ≡ writer.old)) }
     ensures cause { IfErr result (λ fault. (e : PlanError) → fault ≡ BadPlan e
         → refusal_of setup.gear setup.blocks.items [] ≡ Some e) }
-    ensures told { setup.as_json ≡ false → setup.as_story ≡ false
-        → OnOk result (Reports setup.turns setup.surveys (length setup.blocks.items)
-        (W.contents writer.old) (W.contents writer.new)) }
+    ensures told { OnOk result (Tells setup.as_story setup.as_json setup.turns setup.surveys
+        (length setup.blocks.items) (W.contents writer.old) (W.contents writer.new)) }
 {
     let plan = planned(alloc, setup.gear, setup.blocks.as_slice(), &[])?;
     run_on(rt, alloc, &plan, &setup, writer)
@@ -178,6 +177,23 @@ fn drawn_plan(alloc: Global, setup: &Setup, undrawn: &Plan) -> Result<Plan, Allo
         // None of the numbers is too large, and none stands twice.
         Err(ThreadsFault::BadPlan(_)) => unreachable!(),
         Err(ThreadsFault::Memory | ThreadsFault::Write) => Err(AllocError),
+    }
+}
+
+/// The story of a run, or its report as JSON or as lines.
+fn told(
+    alloc: Global,
+    setup: &Setup,
+    outcomes: &[Outcome],
+    site: &SiteState,
+) -> Result<String, AllocError>
+    ensures { IfOk result (λ text. string_bytes text
+        ≡ told_text setup.now.as_story setup.now.as_json outcomes.now site.now) }
+{
+    match (setup.as_story, setup.as_json) {
+        (true, _) => story(alloc, site),
+        (false, true) => json_report(alloc, outcomes, site),
+        (false, false) => report(alloc, outcomes, site),
     }
 }
 
@@ -206,8 +222,7 @@ fn run_on<R: Threads + Wait + Sync, W: Write>(
 ) -> Result<(), ThreadsFault>
     requires { refusal_of setup.now.gear setup.now.blocks.items [] ≡ None }
     ensures cause { IfErr result (λ fault. (e : PlanError) → fault ≡ BadPlan e → ⊥) }
-    ensures told { setup.now.as_json ≡ false → setup.now.as_story ≡ false
-        → OnOk result (Reports setup.now.turns setup.now.surveys
+    ensures told { OnOk result (Tells setup.now.as_story setup.now.as_json setup.now.turns setup.now.surveys
         (length setup.now.blocks.items) (W.contents writer.old) (W.contents writer.new)) }
 {
     let plan = drawn_plan(alloc, setup, undrawn)?;
@@ -223,12 +238,6 @@ fn run_on<R: Threads + Wait + Sync, W: Write>(
         setup.turns,
         setup.surveys,
     )?;
-    let text = if setup.as_story {
-        story(alloc, &site)
-    } else if setup.as_json {
-        json_report(alloc, &outcomes, &site)
-    } else {
-        report(alloc, &outcomes, &site)
-    }?;
+    let text = told(alloc, setup, &outcomes, &site)?;
     write(writer, text.as_bytes())
 }

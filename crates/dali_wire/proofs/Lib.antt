@@ -10,3 +10,4 @@ mod Sending
 mod Worked
 mod Heard
 mod Rests
+mod Echoes

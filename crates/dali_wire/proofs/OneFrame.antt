@@ -2,7 +2,7 @@ use Rattle.std.proofs.Common.{◌≡◌, ℕ, ◌+◌, ◌*◌, ◌%◌, ◌-◌
 use Rattle.std.proofs.Common.{ap, subst, ◌∙◌, arith, nat_lt, nat_le, ◌&&◌, if◌then◌else◌}
 use Rattle.std.proofs.{Math.Pow.pow_mono, lemmas.Bool.Decides.nat_tests}
 use Rattle.dali_frame.specs.declared.frames.Answer.{Answer, TheVariants.Silence, TheVariants.Byte, TheVariants.Damaged}
-use Rattle.dali_wire.specs.Edges.{window_after_all, time_of, by_turns, AtMostOnePulse, high_before, IsOneAnswer}
+use Rattle.dali_wire.specs.Edges.{window_after_all, time_of, by_turns, rises, AtMostOnePulse, high_before, IsOneAnswer}
 use Rattle.dali_wire.specs.{Grid.value_of, Levels.bits_of, Reception.span_of, Reception.span_before, Reception.with_bit, Reception.read_edge}
 use Rattle.dali_wire.specs.{Reception.frame_of, Reception.frame_read, Reception.longer, Reception.reading_at, Times.IsHalf, Times.IsWhole, Times.AreTimes}
 use Rattle.dali_wire.specs.Windows.{answer_in, heard_beside, heard_with, is_idle, window_after, window_at_first, told_after}
@@ -10,7 +10,8 @@ use Rattle.dali_wire.specs.declared.receiver.Frame.{Frame, TheVariants.Forward, 
 use Rattle.dali_wire.specs.declared.receiver.Reading.{Reading, TheVariants.Idle, TheVariants.First, TheVariants.Between, TheVariants.Middle, TheVariants.Spoilt}
 use Rattle.dali_wire.specs.declared.receiver.Span.{Span, TheVariants.Short, TheVariants.Half, TheVariants.Whole, TheVariants.Wrong}
 use Rattle.dali_wire.proofs.{Asking.begun, Heard.longer_is, Joint.byte_is, Rests.state, Rests.TellsOf, Rests.told_is, Rests.damaged_tells}
-use Rattle.dali_wire.proofs.Rests.{goes_on, step, falls, IsBusy, not_idle, edge_busy, IsNeverBusy, never_busy, idle_falls, idle_missed, rises_short, first_ends}
+use Rattle.dali_wire.proofs.Rests.{goes_on, step, falls, IsBusy, not_idle, edge_busy, IsNeverBusy, never_busy, idle_falls, rises_short, first_ends}
+use Rattle.dali_wire.proofs.Rests.{is_early, never_early, missed_after_pulse, missed_late, echo_passes, early_time}
 use Rattle.dali_wire.proofs.{Rests.frame_not_silent, Rests.spoilt_tells, Spans.lately, Values.few_bits, Values.bits_back, Values.below, Values.above}
 
 -- A BYTE IS HEARD of one backward frame alone, that began in its time, and of at most one pulse beside it.
@@ -111,7 +112,8 @@ module _ (r : Reading) (v : ℕ) (busy : IsBusy r) (read : frame_read r ≡ Some
         → Stops v p ((low, t) ∷ edges) rest begin byte
     go false t small over told =
         let no : Byte byte ≡ Damaged =
-        damaged_tells edges (window_after (state r false lasted (begin + lasted) Silence p) false t) rest (Byte byte) (rw over refl) told in
+        damaged_tells edges (window_after (state r false lasted (begin + lasted) Silence p) false t) rest (Byte byte)
+        (rw (over, never_early (begin + lasted) t over) refl) told in
         absurd (cc)
     go true t small over told =
         let now = subst (λ w. TellsOf w edges rest (Byte byte)) (falls r t lasted (begin + lasted) Silence p over) told in
@@ -380,20 +382,26 @@ never_rests lasted elapsed p rest byte told = elim (told_is (state Idle false la
     go true test is = let no = rw test at is in cc
     go false test is = let no = rw test at is in cc
 
-from_rest : (edges : List (Bool × ℕ)) (lasted elapsed : ℕ) (p : Bool) (rest byte : ℕ) → elapsed + (time_of edges + rest) < 2 ^ 32
-    → TellsOf (state Idle false lasted elapsed Silence p) edges rest (Byte byte) → Falls p edges rest elapsed byte
-from_rest [] lasted elapsed p rest byte small told = absurd (never_rests lasted elapsed p rest byte told)
-from_rest (e ∷ edges) lasted elapsed p rest byte small told = go e.0 e.1 small told where
+from_high : (edges : List (Bool × ℕ)) (t lasted elapsed : ℕ) (p : Bool) (rest byte : ℕ) → elapsed + (t + time_of edges + rest) < 2 ^ 32
+    → TellsOf (state Idle false lasted elapsed Silence p) ((true, t) ∷ edges) rest (Byte byte) → Falls p ((true, t) ∷ edges) rest elapsed byte
+from_high edges t lasted elapsed p rest byte small told =
+    let now : min (elapsed + t) (2 ^ 32 - 1) ≡ elapsed + t = omega arith in
+    let first = rw now at (subst (λ w. TellsOf w edges rest (Byte byte)) (idle_falls t lasted elapsed Silence p) told) in
+    record { high = t; more = edges; edges_are = refl; starts = from_first edges (elapsed + t) p rest byte (omega arith) first }
+
+-- after a pulse
+from_rest : (edges : List (Bool × ℕ)) (lasted elapsed rest byte : ℕ) → elapsed + (time_of edges + rest) < 2 ^ 32
+    → TellsOf (state Idle false lasted elapsed Silence true) edges rest (Byte byte) → Falls true edges rest elapsed byte
+from_rest [] lasted elapsed rest byte small told = absurd (never_rests lasted elapsed true rest byte told)
+from_rest (e ∷ edges) lasted elapsed rest byte small told = go e.0 e.1 small told where
   go : (low : Bool) (t : ℕ) → elapsed + (t + time_of edges + rest) < 2 ^ 32
-      → TellsOf (state Idle false lasted elapsed Silence p) ((low, t) ∷ edges) rest (Byte byte) → Falls p ((low, t) ∷ edges) rest elapsed byte
+      → TellsOf (state Idle false lasted elapsed Silence true) ((low, t) ∷ edges) rest (Byte byte) → Falls true ((low, t) ∷ edges) rest elapsed byte
   go false t small told =
       let no : Byte byte ≡ Damaged =
-      damaged_tells edges (window_after (state Idle false lasted elapsed Silence p) false t) rest (Byte byte) (idle_missed t lasted elapsed Silence p) told in
+      damaged_tells edges (window_after (state Idle false lasted elapsed Silence true) false t) rest (Byte byte)
+      (missed_after_pulse t lasted elapsed Silence) told in
       absurd (cc)
-  go true t small told =
-      let now : min (elapsed + t) (2 ^ 32 - 1) ≡ elapsed + t = omega arith in
-      let first = rw now at (subst (λ w. TellsOf w edges rest (Byte byte)) (idle_falls t lasted elapsed Silence p) told) in
-      record { high = t; more = edges; edges_are = refl; starts = from_first edges (elapsed + t) p rest byte (omega arith) first }
+  go true t small told = from_high edges t lasted elapsed true rest byte small told
 
 -- THE BITS of the byte
 its_bits : (bits : List Bool) (byte : ℕ) → frame_of (value_of 1 bits) ≡ Backward byte → bits ≡ bits_of 8 byte
@@ -432,53 +440,131 @@ pulse_before : (high low : ℕ) (after : List ℕ) → low < 100 → IsAfter tru
 pulse_before high low [] few h = few
 pulse_before high low (x ∷ after) few h = absurd (h)
 
-pub one_frame : (edges : List (Bool × ℕ)) (rest byte : ℕ) → time_of edges + rest < 2 ^ 32
-    → told_after (window_after_all window_at_first edges) rest ≡ Some (Byte byte) → IsOneAnswer edges rest byte
-one_frame edges rest byte small told = go (from_rest edges 0 0 false rest byte (omega arith) told) where
-  at_once : (high : ℕ) (more : List (Bool × ℕ)) → Begins false more rest (0 + high) byte → IsOneAnswer ((true, high) ∷ more) rest byte
+-- so long after the forward frame, after echoes alone
+record OneFrom (elapsed : ℕ) (edges : List (Bool × ℕ)) (rest byte : ℕ) : Type 0 where
+  echoes : List ℕ
+  before : List ℕ
+  high : ℕ
+  first : ℕ
+  times : List ℕ
+  after : List ℕ
+  edges_are : edges ≡ rises echoes ++ by_turns true (before ++ (high ∷ first ∷ times) ++ after)
+  early : elapsed + time_of (rises echoes) < 2400
+  start : IsHalf first
+  bits : AreTimes false (bits_of 8 byte) times
+  pulses : AtMostOnePulse before after
+  least : 2400 ≤ elapsed + time_of (rises echoes) + time_of (by_turns true before) + high
+  most : elapsed + time_of (rises echoes) + time_of (by_turns true before) + high ≤ 12400
+  stop : 2400 ≤ high_before after rest
+
+module _ (elapsed rest byte : ℕ) (few : elapsed < 2400) where
+  at_once : (high : ℕ) (more : List (Bool × ℕ)) → Begins false more rest (elapsed + high) byte → OneFrom elapsed ((true, high) ∷ more) rest byte
   at_once high more b = record {
+    echoes = [];
     before = [];
     high = high;
     first = b.first;
     times = b.reads.times;
     after = b.reads.tail.after;
     edges_are = ap (λ es. (true, high) ∷ es) (b.edges_are ∙ ap (λ es. (false, b.first) ∷ es) b.reads.edges_are);
+    early = omega (arith, few);
     start = b.start;
     bits = subst (λ bs. AreTimes false bs b.reads.times) (its_bits b.reads.bits byte b.reads.is) b.reads.are;
     pulses = nothing_before b.reads.tail.after b.reads.tail.pulse;
-    least = b.reads.tail.least;
-    most = b.reads.tail.most;
+    least = omega (arith, b.reads.tail.least);
+    most = omega (arith, b.reads.tail.most);
     stop = b.reads.tail.stop;
   }
 
-  later : (before low high : ℕ) (more : List (Bool × ℕ)) → low < 100 → Begins true more rest (0 + before + low + high) byte
-      → IsOneAnswer ((true, before) ∷ (false, low) ∷ (true, high) ∷ more) rest byte
-  later before low high more few b = record {
+  later : (before low high : ℕ) (more : List (Bool × ℕ)) → low < 100 → Begins true more rest (elapsed + before + low + high) byte
+      → OneFrom elapsed ((true, before) ∷ (false, low) ∷ (true, high) ∷ more) rest byte
+  later before low high more short b = record {
+    echoes = [];
     before = before ∷ low ∷ [];
     high = high;
     first = b.first;
     times = b.reads.times;
     after = b.reads.tail.after;
     edges_are = ap (λ es. (true, before) ∷ (false, low) ∷ (true, high) ∷ es) (b.edges_are ∙ ap (λ es. (false, b.first) ∷ es) b.reads.edges_are);
+    early = omega (arith, few);
     start = b.start;
     bits = subst (λ bs. AreTimes false bs b.reads.times) (its_bits b.reads.bits byte b.reads.is) b.reads.are;
-    pulses = pulse_before before low b.reads.tail.after few b.reads.tail.pulse;
+    pulses = pulse_before before low b.reads.tail.after short b.reads.tail.pulse;
     least = omega (arith, b.reads.tail.least);
     most = omega (arith, b.reads.tail.most);
     stop = b.reads.tail.stop;
   }
 
-  again : (before : ℕ) (more : List (Bool × ℕ)) → GoesOver false more rest (0 + before) byte → IsOneAnswer ((true, before) ∷ more) rest byte
-  again before more o = ends (from_rest o.more o.lasted (0 + before + o.low) true rest byte o.small o.told) where
-    ends : Falls true o.more rest (0 + before + o.low) byte → IsOneAnswer ((true, before) ∷ more) rest byte
+  again : (before : ℕ) (more : List (Bool × ℕ)) → GoesOver false more rest (elapsed + before) byte → OneFrom elapsed ((true, before) ∷ more) rest byte
+  again before more o = ends (from_rest o.more o.lasted (elapsed + before + o.low) rest byte o.small o.told) where
+    ends : Falls true o.more rest (elapsed + before + o.low) byte → OneFrom elapsed ((true, before) ∷ more) rest byte
     ends f = elim f.starts [ inl b ↦ here b | inr o ↦ let no = o.new in absurd (cc) ] where
-      here : Begins true f.more rest (0 + before + o.low + f.high) byte → IsOneAnswer ((true, before) ∷ more) rest byte
+      here : Begins true f.more rest (elapsed + before + o.low + f.high) byte → OneFrom elapsed ((true, before) ∷ more) rest byte
       here b =
-          subst (λ es. IsOneAnswer es rest byte)
+          subst (λ es. OneFrom elapsed es rest byte)
           (sym (ap (λ es. (true, before) ∷ es) (o.edges_are ∙ ap (λ es. (false, o.low) ∷ es) f.edges_are)))
           (later before o.low f.high f.more o.few b)
 
-  go : Falls false edges rest 0 byte → IsOneAnswer edges rest byte
-  go f =
-      subst (λ es. IsOneAnswer es rest byte) (sym f.edges_are)
+  from_low : (edges : List (Bool × ℕ)) → Falls false edges rest elapsed byte → OneFrom elapsed edges rest byte
+  from_low edges f =
+      subst (λ es. OneFrom elapsed es rest byte) (sym f.edges_are)
       (elim f.starts [ inl b ↦ at_once f.high f.more b | inr o ↦ again f.high f.more o ])
+
+  after_echo : (t : ℕ) (edges : List (Bool × ℕ)) → OneFrom (elapsed + t) edges rest byte → OneFrom elapsed ((false, t) ∷ edges) rest byte
+  after_echo t edges one = record {
+    echoes = t ∷ one.echoes;
+    before = one.before;
+    high = one.high;
+    first = one.first;
+    times = one.times;
+    after = one.after;
+    edges_are = ap (λ es. (false, t) ∷ es) one.edges_are;
+    early = omega (arith, one.early);
+    start = one.start;
+    bits = one.bits;
+    pulses = one.pulses;
+    least = omega (arith, one.least);
+    most = omega (arith, one.most);
+    stop = one.stop;
+  }
+
+abbrev OneByte : List (Bool × ℕ) → Type 0
+OneByte edges = (elapsed rest byte : ℕ) → elapsed < 2400 → elapsed + (time_of edges + rest) < 2 ^ 32
+    → TellsOf (state Idle false 0 elapsed Silence false) edges rest (Byte byte) → OneFrom elapsed edges rest byte
+
+one_from : (edges : List (Bool × ℕ)) → OneByte edges
+one_from [] elapsed rest byte few small told = absurd (never_rests 0 elapsed false rest byte told)
+one_from (e ∷ edges) elapsed rest byte few small told = go e.0 e.1 (is_early elapsed e.1) refl (one_from edges) small told where
+  go : (low : Bool) (t : ℕ) (b : Bool) → is_early elapsed t ≡ b → OneByte edges → elapsed + (t + time_of edges + rest) < 2 ^ 32
+      → TellsOf (state Idle false 0 elapsed Silence false) ((low, t) ∷ edges) rest (Byte byte) → OneFrom elapsed ((low, t) ∷ edges) rest byte
+  go true t b is more small told =
+      from_low elapsed rest byte few ((true, t) ∷ edges) (from_high edges t 0 elapsed false rest byte small told)
+  go false t true is more small told =
+      let time = early_time t elapsed is in
+      let now = rw time.0 at (subst (λ w. TellsOf w edges rest (Byte byte)) (echo_passes t elapsed Silence is) told) in
+      after_echo elapsed rest byte few t edges (more (elapsed + t) rest byte time.1 (omega arith) now)
+  go false t false is more small told =
+      let no : Byte byte ≡ Damaged =
+      damaged_tells edges (window_after (state Idle false 0 elapsed Silence false) false t) rest (Byte byte) (missed_late t 0 elapsed Silence false is) told in
+      absurd (cc)
+
+pub one_frame : (edges : List (Bool × ℕ)) (rest byte : ℕ) → time_of edges + rest < 2 ^ 32
+    → told_after (window_after_all window_at_first edges) rest ≡ Some (Byte byte) → IsOneAnswer edges rest byte
+one_frame edges rest byte small told = is (one_from edges 0 rest byte (omega arith) (omega arith) told) where
+  is : OneFrom 0 edges rest byte → IsOneAnswer edges rest byte
+  is one = record {
+    echoes = one.echoes;
+    before = one.before;
+    high = one.high;
+    first = one.first;
+    times = one.times;
+    after = one.after;
+    edges_are = one.edges_are;
+    early = omega (arith, one.early);
+    start = one.start;
+    bits = one.bits;
+    pulses = one.pulses;
+    least = omega (arith, one.least);
+    most = omega (arith, one.most);
+    stop = one.stop;
+  }

@@ -1,8 +1,8 @@
-use Rattle.std.proofs.Common.{◌≡◌, ℕ, ◌+◌, ◌*◌, ◌-◌, ◌^◌, ◌<◌, min, Bool, true, false, Option, Some, None, List, [], ◌∷◌, ◌⊎◌, inl, inr, refl, sym, ap, subst}
-use Rattle.std.proofs.Common.{◌∙◌, arith, nat_lt, nat_le, ◌&&◌, ◌||◌, if◌then◌else◌}
+use Rattle.std.proofs.Common.{◌≡◌, ℕ, ◌+◌, ◌*◌, ◌-◌, ◌^◌, ◌<◌, min, Bool, true, false, Option, Some, None, List, [], ◌∷◌, ◌++◌, ◌⊎◌, inl, inr, refl, sym, ap}
+use Rattle.std.proofs.Common.{subst, ◌∙◌, arith, nat_lt, nat_le, not, ◌&&◌, ◌||◌, if◌then◌else◌}
 use Rattle.std.proofs.lemmas.Bool.Decides.{nat_tests}
 use Rattle.dali_frame.specs.declared.frames.Answer.{Answer, TheVariants.Silence, TheVariants.Byte, TheVariants.Damaged}
-use Rattle.dali_wire.specs.Edges.{window_after_all, IsAtRest}
+use Rattle.dali_wire.specs.Edges.{window_after_all, time_of, by_turns, rises, AtMostOnePulse, IsAtRest}
 use Rattle.dali_wire.specs.Reception.{span_of, span_before, with_bit, read_edge, frame_of, frame_read, longer, reading_at}
 use Rattle.dali_wire.specs.Windows.{answer_in, heard_after, heard_beside, heard_with, is_idle, window_after, window_at_first, told_after}
 use Rattle.dali_wire.specs.declared.receiver.Frame.{Frame, TheVariants.Forward, TheVariants.Backward, TheVariants.Device, TheVariants.Damaged as Broken}
@@ -143,6 +143,13 @@ busy_read (Between v) busy = (frame_of v, refl)
 busy_read (Middle v) busy = (frame_of v, refl)
 busy_read Spoilt busy = (Broken, refl)
 
+-- before a backward frame may begin
+abbrev pub is_early : ℕ → ℕ → Bool
+is_early elapsed t = nat_lt (min (elapsed + t) (2 ^ 32 - 1)) 2400
+
+pub never_early : (elapsed t : ℕ) → nat_lt t 2400 ≡ false → is_early elapsed t ≡ false
+never_early elapsed t over = grind (arith, nat_tests)
+
 -- WHAT IS NEVER TOLD, if this was heard and a frame is being read
 abbrev IsNeverOf : Answer → Answer → Type 0
 IsNeverOf a h = (a ≡ h → ⊥) × ((edges : List (Bool × ℕ)) (w : Window) (rest : ℕ) → w.heard ≡ h → TellsOf w edges rest a → ⊥)
@@ -190,7 +197,7 @@ module _ (a h : Answer) (clean : a ≡ Damaged → ⊥) (never : (t : Told) (now
         (state First true 0 (min (elapsed + t) (2 ^ 32 - 1)) (heard_with (state r false lasted elapsed h p) t) p) rest
         (rw (on, frame.1) refl) now
     go false false t false on more told =
-        clean (damaged_tells edges (window_after (state r false lasted elapsed h p) false t) rest a (rw on refl) told)
+        clean (damaged_tells edges (window_after (state r false lasted elapsed h p) false t) rest a (rw (on, never_early elapsed t on) refl) told)
 
 -- WHAT IS NO FRAME is told as damaged
 heard_broken : (h : Answer) (told : Told) (now : ℕ) → told.frame ≡ Broken → heard_after h (Some told) now ≡ Damaged
@@ -228,7 +235,7 @@ spoilt_tells (e ∷ edges) was lasted elapsed h p rest a told = go was e.0 e.1 (
       (rw on (heard_broken h (record { frame = Broken; lasted = lasted; since = t }) _ refl))
       (subst (λ w. TellsOf w edges rest a) (falls Spoilt t lasted elapsed h p on) told)
   go false false t false on more told =
-      damaged_tells edges (window_after (state Spoilt false lasted elapsed h p) false t) rest a (rw on refl) told
+      damaged_tells edges (window_after (state Spoilt false lasted elapsed h p) false t) rest a (rw (on, never_early elapsed t on) refl) told
 
 -- FROM REST
 pub idle_falls : (t lasted elapsed : ℕ) (h : Answer) (p : Bool)
@@ -239,11 +246,35 @@ idle_falls t lasted elapsed h p = go (nat_lt t 2400) refl where
   go true test = rw (test, or_false) refl
   go false test = rw (test, or_false) refl
 
-pub idle_missed : (t lasted elapsed : ℕ) (h : Answer) (p : Bool) → (window_after (state Idle false lasted elapsed h p) false t).heard ≡ Damaged
-idle_missed t lasted elapsed h p = go (nat_lt t 2400) refl where
+-- an edge to high, once a backward frame may have begun; or after a pulse
+idle_missed : (t lasted elapsed : ℕ) (h : Answer) (p : Bool) → (is_early elapsed t && not p) ≡ false
+    → (window_after (state Idle false lasted elapsed h p) false t).heard ≡ Damaged
+idle_missed t lasted elapsed h p late = go (nat_lt t 2400) refl where
   go : (b : Bool) → nat_lt t 2400 ≡ b → (window_after (state Idle false lasted elapsed h p) false t).heard ≡ Damaged
-  go true test = rw test refl
-  go false test = rw test refl
+  go true test = rw (test, late) refl
+  go false test = rw (test, late) refl
+
+pub missed_after_pulse : (t lasted elapsed : ℕ) (h : Answer) → (window_after (state Idle false lasted elapsed h true) false t).heard ≡ Damaged
+missed_after_pulse t lasted elapsed h = idle_missed t lasted elapsed h true (never (is_early elapsed t)) where
+  never : (b : Bool) → (b && false) ≡ false
+  never true = refl
+  never false = refl
+
+pub missed_late : (t lasted elapsed : ℕ) (h : Answer) (p : Bool) → is_early elapsed t ≡ false
+    → (window_after (state Idle false lasted elapsed h p) false t).heard ≡ Damaged
+missed_late t lasted elapsed h p late = idle_missed t lasted elapsed h p (rw late refl)
+
+-- and before: an echo changes nothing but the time
+pub echo_passes : (t elapsed : ℕ) (h : Answer) → is_early elapsed t ≡ true
+    → window_after (state Idle false 0 elapsed h false) false t ≡ state Idle false 0 (min (elapsed + t) (2 ^ 32 - 1)) h false
+echo_passes t elapsed h early = go (nat_lt t 2400) refl where
+  go : (b : Bool) → nat_lt t 2400 ≡ b
+      → window_after (state Idle false 0 elapsed h false) false t ≡ state Idle false 0 (min (elapsed + t) (2 ^ 32 - 1)) h false
+  go true test = rw (test, early) refl
+  go false test = rw (test, early) refl
+
+pub early_time : (t elapsed : ℕ) → is_early elapsed t ≡ true → (min (elapsed + t) (2 ^ 32 - 1) ≡ elapsed + t) × (elapsed + t < 2400)
+early_time t elapsed early = (grind (arith, nat_tests), grind (arith, nat_tests))
 
 first_busy : (low : Bool) (k : Span) → (k ≡ Short → ⊥) → IsBusy (read_edge First low k)
 first_busy low Short long = absurd (long refl)
@@ -303,7 +334,8 @@ module _ (a h : Answer) (clean : a ≡ Damaged → ⊥) (busy : IsNeverBusy a h)
       go false u t = rise u now more (span_of u) refl t
 
     fall : (low : Bool) (t : ℕ) → TellsOf (state Idle false lasted elapsed h true) ((low, t) ∷ edges) rest a → ⊥
-    fall false t x = clean (damaged_tells edges (window_after (state Idle false lasted elapsed h true) false t) rest a (idle_missed t lasted elapsed h true) x)
+    fall false t x =
+        clean (damaged_tells edges (window_after (state Idle false lasted elapsed h true) false t) rest a (missed_after_pulse t lasted elapsed h) x)
     fall true t x =
         low_again (min (elapsed + t) (2 ^ 32 - 1)) edges (subst (λ w. TellsOf w edges rest a) (idle_falls t lasted elapsed h true) x)
 
@@ -341,14 +373,49 @@ silent_busy = never_busy Silence Silence (λ d. cc) (λ t now. (
   (λ edges w rest heard told. told_not_silent Silence t now (sym heard ∙ silent_before edges w rest told)),
 ))
 
-pub silence_rests : (edges : List (Bool × ℕ)) (rest : ℕ) → told_after (window_after_all window_at_first edges) rest ≡ Some Silence → IsAtRest edges
-silence_rests [] rest told = record { times = []; edges_are = refl; pulses = tt }
-silence_rests (e ∷ edges) rest told = go e.0 e.1 told where
-  go : (low : Bool) (t : ℕ) → TellsOf window_at_first ((low, t) ∷ edges) rest Silence → IsAtRest ((low, t) ∷ edges)
-  go false t told =
-      let no : Silence ≡ Damaged = damaged_tells edges (window_after window_at_first false t) rest Silence (idle_missed t 0 0 Silence false) told in
+-- so long after the forward frame, after echoes alone
+record RestsFrom (elapsed : ℕ) (edges : List (Bool × ℕ)) : Type 0 where
+  echoes : List ℕ
+  times : List ℕ
+  edges_are : edges ≡ rises echoes ++ by_turns true times
+  early : elapsed + time_of (rises echoes) < 2400
+  pulses : AtMostOnePulse times []
+
+abbrev Rest : List (Bool × ℕ) → Type 0
+Rest edges = (elapsed rest : ℕ) → elapsed < 2400 → TellsOf (state Idle false 0 elapsed Silence false) edges rest Silence → RestsFrom elapsed edges
+
+silence_from : (edges : List (Bool × ℕ)) → Rest edges
+silence_from [] elapsed rest few told = record { echoes = []; times = []; edges_are = refl; early = omega (arith, few); pulses = tt }
+silence_from (e ∷ edges) elapsed rest few told = go e.0 e.1 (is_early elapsed e.1) refl (silence_from edges) told where
+  go : (low : Bool) (t : ℕ) (b : Bool) → is_early elapsed t ≡ b → Rest edges
+      → TellsOf (state Idle false 0 elapsed Silence false) ((low, t) ∷ edges) rest Silence → RestsFrom elapsed ((low, t) ∷ edges)
+  go true t b is more told =
+      let now = subst (λ w. TellsOf w edges rest Silence) (idle_falls t 0 elapsed Silence false) told in
+      let ends = (first_ends Silence Silence (λ d. cc) silent_busy edges 0 (min (elapsed + t) (2 ^ 32 - 1)) false rest now).0 in
+      record {
+        echoes = [];
+        times = t ∷ ends.0 ∷ [];
+        edges_are = ap (λ es. (true, t) ∷ es) ends.1;
+        early = omega (arith, few);
+        pulses = ends.2;
+      }
+  go false t true is more told =
+      let time = early_time t elapsed is in
+      let now = rw time.0 at (subst (λ w. TellsOf w edges rest Silence) (echo_passes t elapsed Silence is) told) in
+      let rests = more (elapsed + t) rest time.1 now in
+      record {
+        echoes = t ∷ rests.echoes;
+        times = rests.times;
+        edges_are = ap (λ es. (false, t) ∷ es) rests.edges_are;
+        early = omega (arith, rests.early);
+        pulses = rests.pulses;
+      }
+  go false t false is more told =
+      let no : Silence ≡ Damaged =
+      damaged_tells edges (window_after (state Idle false 0 elapsed Silence false) false t) rest Silence (missed_late t 0 elapsed Silence false is) told in
       absurd (cc)
-  go true t told =
-      let now = subst (λ w. TellsOf w edges rest Silence) (idle_falls t 0 0 Silence false) told in
-      let ends = (first_ends Silence Silence (λ d. cc) silent_busy edges 0 (min (0 + t) (2 ^ 32 - 1)) false rest now).0 in
-      record { times = t ∷ ends.0 ∷ []; edges_are = ap (λ es. (true, t) ∷ es) ends.1; pulses = ends.2 }
+
+pub silence_rests : (edges : List (Bool × ℕ)) (rest : ℕ) → told_after (window_after_all window_at_first edges) rest ≡ Some Silence → IsAtRest edges
+silence_rests edges rest told =
+    let rests = silence_from edges 0 rest (omega arith) told in
+    record { echoes = rests.echoes; times = rests.times; edges_are = rests.edges_are; early = omega (arith, rests.early); pulses = rests.pulses }

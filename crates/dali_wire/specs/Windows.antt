@@ -1,4 +1,4 @@
-use Rattle.std.specs.Prelude.{ℕ, ◌+◌, ◌-◌, ◌^◌, min, Bool, true, false}
+use Rattle.std.specs.Prelude.{ℕ, ◌+◌, ◌-◌, ◌^◌, min, Bool, true, false, not}
 use Rattle.std.specs.Prelude.{◌&&◌, ◌||◌, nat_lt, nat_le}
 use Rattle.std.specs.Prelude.{Option, Some, None, if◌then◌else◌}
 use Rattle.dali_frame.specs.declared.frames.Answer.{Answer}
@@ -49,11 +49,18 @@ answer_at w now =
     if is_idle w.receiver.reading && nat_lt 12400 now then Some w.heard
     else (if nat_lt 50000 now then Some Damaged else None)
 
+-- AN ECHO of the last edge of the forward frame, which a transceiver tells late: the bus is high
+-- after it and was not low before, and no backward frame may have begun yet.
+abbrev pub is_echo : Window → Bool → ℕ → Bool
+is_echo w low since =
+    not w.receiver.is_low && not low && nat_lt (passed w since) 2400 && not w.has_pulse
+
 -- A LOW ON A BUS AT REST that the receiver passes over: it is at rest after the edge that ends it,
 -- or its first edge was missed.
 abbrev pub is_passed_over : Window → Bool → ℕ → Bool
 is_passed_over w low since =
     is_idle (reading_after w.receiver.reading w.receiver.is_low low since)
+    && not (is_echo w low since)
 
 -- If it is shorter than 100 µs it is a pulse, too short for a low that a control gear sent.
 abbrev pub is_pulse : Window → ℕ → Bool

@@ -7,7 +7,8 @@
 ghost use Rattle.std.specs.Prelude.{◌≡◌, ℕ, ◌+◌, ◌*◌, ◌^◌, ◌<◌, ◌≤◌, ◌⊎◌, Bool, true, false, Some, None};
 ghost use Rattle.std.specs.Prelude.{List, ◌∷◌, ◌++◌, length};
 ghost use Rattle.std.specs.List.{AllByRecursion};
-ghost use Rattle.dali_frame.specs.declared.frames.Answer.TheVariants.{Silence, Byte};
+ghost use Rattle.dali_frame.specs.declared.frames.Answer.{Answer};
+ghost use Rattle.dali_frame.specs.declared.frames.Answer.TheVariants.{Silence, Byte, Damaged as Garbled};
 ghost use Rattle.dali_frame.specs.declared.frames.Forward.{Forward as Sent};
 ghost use Rattle.dali_wire.specs.declared.receiver.Reading.TheVariants.{Idle, First};
 ghost use Rattle.dali_wire.specs.declared.receiver.Frame.{Frame};
@@ -18,7 +19,7 @@ ghost use Rattle.dali_wire.specs.Grid.{Tells, IsHeard, IsPassedOver, begun_at, W
 ghost use Rattle.dali_wire.specs.Times.{IsHalf, AreTimes, HasRead};
 ghost use Rattle.dali_wire.specs.declared.window.Window.{Window};
 ghost use Rattle.dali_wire.specs.Windows.{window_after, window_at, window_at_first, passed, told_after};
-ghost use Rattle.dali_wire.specs.Edges.{window_after_all, by_turns, time_of, IsAtRest, IsOneAnswer};
+ghost use Rattle.dali_wire.specs.Edges.{window_after_all, by_turns, time_of, IsBeforeLow, IsAtRest, IsOneAnswer};
 
 /// Every frame is read back from its levels, once the bus was high for a stop condition.
 pub fn frames_are_read_back()
@@ -59,7 +60,8 @@ pub fn joint_answers_are_one_byte()
         → (sent ≡ byte) × (begin ≡ first_low bus) }
 {}
 
-/// Whatever edges a window was told, it tells silence only of a bus at rest, with at most one low shorter than 100 µs.
+/// Whatever edges a window was told, it tells silence only of a bus at rest, with at most one low shorter than 100 µs,
+/// and with echoes before it.
 /// So of two lows or more, or of one that is longer, it never tells silence.
 pub fn silence_is_a_bus_at_rest()
     ensures { (edges : List (Bool × ℕ)) (rest : ℕ)
@@ -90,6 +92,19 @@ pub fn asking_changes_nothing()
         → window_after (window_at w before) low since ≡ window_after w low since }
     ensures time { (w : Window) (before since : ℕ) → before ≤ since → w.elapsed + since < 2 ^ 32
         → window_at (window_at w before) since ≡ window_at w since }
+{}
+
+/// An edge to high before any low, and before a backward frame may begin, changes nothing but the time of the next one:
+/// it is an echo of the last edge of the forward frame. After any other edge to high of a high bus, of which edges were
+/// missed, damage is told.
+pub fn only_echoes_are_passed_over()
+    ensures edge { (w : Window) (echo since : ℕ) (low : Bool) → IsBeforeLow w → w.elapsed + echo < 2400
+        → window_after (window_after w false echo) low since ≡ window_after w low (echo + since) }
+    ensures time { (w : Window) (echo rest : ℕ) → IsBeforeLow w → w.elapsed + echo < 2400
+        → told_after (window_after w false echo) rest ≡ told_after w (echo + rest) }
+    ensures missed { (w : Window) (since rest : ℕ) (edges : List (Bool × ℕ)) (told : Answer)
+        → w.receiver.is_low ≡ false → (IsBeforeLow w → 2400 ≤ w.elapsed + since)
+        → told_after (window_after_all (window_after w false since) edges) rest ≡ Some told → told ≡ Garbled }
 {}
 
 /// Lows that are shorter than a half bit, on a bus at rest, are not told, however many come and whenever, and the bus

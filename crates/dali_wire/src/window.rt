@@ -1,4 +1,4 @@
-ghost use Rattle.std.specs.Prelude.{◌≡◌, ◌<◌, IsSome};
+ghost use Rattle.std.specs.Prelude.{◌≡◌, ◌<◌, ◌&&◌, not, nat_lt, IsSome};
 ghost use Rattle.dali_wire.specs.Windows.{answer_in, heard_after, heard_beside, passed, answer_at, window_after};
 ghost use Rattle.dali_wire.specs.Windows.{window_at, window_at_first};
 
@@ -77,8 +77,16 @@ impl Window {
         }
     }
 
+    /// Whether an edge, so long after the forward frame, may be the last one of that frame, told late: the bus is high
+    /// after it, no low was told before, and no backward frame may have begun.
+    fn is_echo(&self, is_low: bool, now: u32) -> bool
+        ensures { result ≡ (not self.now.receiver.is_low && not is_low && nat_lt now 2400 && not self.now.has_pulse) }
+    {
+        !self.receiver.is_low && !is_low && now < LEAST_BEGIN && !self.has_pulse
+    }
+
     /// An edge, after which the bus is low or high, so many µs after the last one; the first one after so many µs since
-    /// the last edge of the forward frame.
+    /// the last edge of the forward frame. An echo of that edge changes nothing.
     ///
     /// A low that the receiver passes over damages what is heard, but for one pulse.
     pub fn edge(&mut self, is_low: bool, since: u32)
@@ -86,8 +94,9 @@ impl Window {
     {
         let now = self.elapsed.saturating_add(since);
         let is_pulse = self.receiver.is_low && since < PULSE;
+        let is_echo = self.is_echo(is_low, now);
         let told = self.receiver.edge(is_low, since);
-        let is_passed_over = matches!(self.receiver.reading, Reading::Idle);
+        let is_passed_over = matches!(self.receiver.reading, Reading::Idle) && !is_echo;
         let heard = with(self.heard, told, now);
         self.heard = beside(heard, is_passed_over, is_pulse, self.has_pulse);
         self.has_pulse = self.has_pulse || is_passed_over;

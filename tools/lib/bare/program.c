@@ -21,6 +21,8 @@
 
 #define BANDS 4
 #define STACK_WORDS (48 * 1024 / 4)
+/* The words above the stack of a call, where its fifth argument is if it is not in a register. */
+#define ABOVE 4
 #define PAINT UINT32_C(0x5C5C5C5C)
 /* The calls that do not drive a commissioning are made at each moment of so many. */
 #define BESIDE 13
@@ -57,12 +59,15 @@ struct course {
     struct dali_told frame PLACED;
     struct dali_window window PLACED;
     struct dali_heard heard PLACED;
+    struct dali_port port ALIGNED;
+    struct dali_event event ALIGNED;
+    uint32_t now;
     uint8_t due, next;
 };
 
-/* What a call may take: the registers of its first four arguments. */
+/* What a call may take: the registers of its first four arguments, and a fifth one. */
 struct arguments {
-    uintptr_t at[4];
+    uintptr_t at[5];
 };
 
 /* What was counted of a call while so many gear were enrolled. */
@@ -80,7 +85,7 @@ struct call {
     struct figure figures[BANDS];
 };
 
-static uint32_t stacks[20][STACK_WORDS] ALIGNED;
+static uint32_t stacks[25][STACK_WORDS] ALIGNED;
 static struct course course;
 /* Of the two calls that take a step, those that ordered a later frame of a transaction, for which the bus waits. */
 static struct figure later[2][BANDS];
@@ -216,6 +221,30 @@ static int ready_receiver_time(struct course *it, struct arguments *arguments)
     return 1;
 }
 
+static int ready_port_new(struct course *it, struct arguments *arguments)
+{
+    *arguments = (struct arguments){{AT(it->port), 0, it->now, AT(it->event)}};
+    return 1;
+}
+
+static int ready_port_send(struct course *it, struct arguments *arguments)
+{
+    *arguments = (struct arguments){{AT(it->port), AT(it->other_order), it->number % 1201, it->now, AT(it->event)}};
+    return 1;
+}
+
+static int ready_port_edge(struct course *it, struct arguments *arguments)
+{
+    *arguments = (struct arguments){{AT(it->port), it->is_low, it->now, AT(it->event)}};
+    return 1;
+}
+
+static int ready_port_timer(struct course *it, struct arguments *arguments)
+{
+    *arguments = (struct arguments){{AT(it->port), it->now, AT(it->event)}};
+    return 1;
+}
+
 #define CALL(name, ready) {#name, (void (*)(void))name, ready, {{0}}}
 
 static struct call calls[] = {
@@ -238,6 +267,11 @@ static struct call calls[] = {
     CALL(dali_receiver_time, ready_receiver_time),
     CALL(dali_window_edge, ready_window_edge),
     CALL(dali_receiver_edge, ready_receiver_edge),
+    CALL(dali_port_new, ready_port_new),
+    CALL(dali_port_send, ready_port_send),
+    CALL(dali_port_timer, ready_port_timer),
+    CALL(dali_port_edge, ready_port_edge),
+    CALL(dali_port_lost, ready_port_edge),
 };
 
 #define CALLS (sizeof calls / sizeof *calls)
@@ -245,6 +279,7 @@ static struct call calls[] = {
 #define AT_PINS 12
 #define TAKE_TIME 15
 #define TAKE_EDGE 17
+#define AT_PORTS 19
 /* How often each trouble comes, per million frames, and when a machine that does not end is left. */
 #ifndef TROUBLED
 #define TROUBLED 0
@@ -293,6 +328,7 @@ __attribute__((naked)) static uint32_t counted(const struct arguments *arguments
                      "lw a1, 4(t0)\n"
                      "lw a2, 8(t0)\n"
                      "lw a3, 12(t0)\n"
+                     "lw a4, 16(t0)\n"
                      "csrr s2, minstret\n"
                      "jalr t1\n"
                      "csrr t0, minstret\n"
@@ -350,6 +386,7 @@ __attribute__((naked)) static uint32_t counted(const struct arguments *arguments
                      "mov x10, x0\n"
                      "ldp x0, x1, [x10]\n"
                      "ldp x2, x3, [x10, #16]\n"
+                     "ldr x4, [x10, #32]\n"
                      "mrs x21, pmevcntr0_el0\n"
                      "blr x9\n"
                      "mrs x9, pmevcntr0_el0\n"
@@ -493,7 +530,7 @@ static uint32_t measured(const struct call *call, const struct arguments *argume
 {
     uint32_t counts;
 
-    sampled_stack = top - STACK_WORDS;
+    sampled_stack = top + ABOVE - STACK_WORDS;
     SYSTICK_RELOAD = SAMPLE_COUNTS;
     SYSTICK_CONTROL = SYSTICK_ON | (call->entry == (void (*)(void))SAMPLED ? SYSTICK_INTERRUPT : 0);
     *status = counted(arguments, call->entry, top, &counts);
@@ -536,7 +573,8 @@ static uint32_t measure(struct call *call, uint32_t *stack)
 
     if (!call->ready(&course, &arguments))
         return 0;
-    count = measured(call, &arguments, stack + STACK_WORDS, &status);
+    stack[STACK_WORDS - ABOVE] = (uint32_t)arguments.at[4];
+    count = measured(call, &arguments, stack + STACK_WORDS - ABOVE, &status);
     must((uint8_t)status == DALI_OK, call->name);
     note(call->figures, count);
     return count;
@@ -564,7 +602,7 @@ static void hear(uint32_t bits, uint32_t number)
         /* A bit 1 is low in its first half, a bit 0 in its second one. */
         course.is_low = half < 2 * bits && (number >> (bits - 1 - half / 2) & 1) != half % 2;
         if (course.is_low != was_low) {
-            measure_from(TAKE_TIME, CALLS);
+            measure_from(TAKE_TIME, AT_PORTS);
             course.micros = 0;
         }
         was_low = course.is_low;
@@ -584,6 +622,51 @@ static void measure_pins(void)
         }
         course.micros = 20000;
         measure_from(TAKE_TIME, TAKE_EDGE);
+    }
+}
+
+static void port_edge(uint32_t is_low, uint32_t now)
+{
+    course.is_low = is_low;
+    course.now = now;
+    measure_from(AT_PORTS + 3, AT_PORTS + 4);
+}
+
+/* The edges of a frame of others on a port, as a number of so many bits with its start bit. */
+static void port_hears(uint32_t bits, uint32_t number, uint32_t from)
+{
+    uint32_t was_low = 0;
+
+    for (uint32_t half = 0; half <= 2 * bits; half++) {
+        uint32_t is_low = half < 2 * bits && (number >> (bits - 1 - half / 2) & 1) != half % 2;
+
+        if (is_low != was_low)
+            port_edge(is_low, from + 417 * half);
+        was_low = is_low;
+    }
+}
+
+/* A port sends frames, of which half are answered, each edge of the bus 15 us late; it reads frames of others; and edges are lost. */
+static void measure_ports(void)
+{
+    for (uint32_t frame = 0; frame < 128; frame++) {
+        course.number = 509 * frame;
+        course.other_order = (struct dali_order){DALI_PUT, DALI_FIRST_PRIORITY, course.number >> 8 & 0xFF, course.number & 0xFF, 1, DALI_WHOLE,
+                                                 {0, {0, {0, 0, 0}}}, 0};
+        measure_from(AT_PORTS, AT_PORTS + 2);
+        for (uint32_t was_low = 0, halves = 0; course.event.input == 0; was_low = course.event.is_low) {
+            course.now = course.event.at;
+            measure_from(AT_PORTS + 2, AT_PORTS + 3);
+            if (course.event.is_low != was_low)
+                port_edge(course.event.is_low, course.now + 15);
+            if (++halves == 41 && frame % 2 == 0)
+                port_hears(9, 0x100 + frame, course.now + 5000);
+        }
+        port_hears(17, 0x10000 + course.number, course.now + 9000);
+        course.now = course.event.at;
+        measure_from(AT_PORTS + 2, AT_PORTS + 3);
+        course.is_low = frame % 2;
+        measure_from(AT_PORTS + 4, AT_PORTS + 5);
     }
 }
 
@@ -673,10 +756,10 @@ static uint32_t depth(const uint32_t *stack)
 {
     unsigned at = 0;
 
-    while (at < STACK_WORDS && stack[at] == PAINT)
+    while (at < STACK_WORDS - ABOVE && stack[at] == PAINT)
         at++;
     must(at > 0, "a stack is too small");
-    return (STACK_WORDS - at) * 4;
+    return (STACK_WORDS - ABOVE - at) * 4;
 }
 
 static void report_figures(const struct figure *bands)
@@ -709,6 +792,7 @@ int main(void)
     for (uint32_t *word = stacks[0]; word < stacks[CALLS]; word++)
         *word = PAINT;
     measure_pins();
+    measure_ports();
     for (unsigned run = 0; run < COMMISSIONINGS; run++)
         commission(SEED + run);
     for (unsigned at = 0; at < sizeof structs / sizeof *structs; at++) {

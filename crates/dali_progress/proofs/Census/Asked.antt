@@ -1,22 +1,13 @@
-use Rattle.std.proofs.Common.{◌≡◌, ℕ, ◌+◌, ◌*◌, ◌<◌, ◌≤◌, ◌⊎◌, inl, inr, Bool, true, false, [], refl, sym, ap, subst, ◌∙◌, arith, Option, Some, None, ◌==◌}
-use Rattle.std.proofs.{Common.nat_lt, Common.zero, Common.suc, Math.Nat.mul-le-mul_left, lemmas.Bool.Decides.nat_tests}
-use Rattle.dali_frame.specs.Priority.{FIRST, LATER}
-use Rattle.dali_frame.specs.declared.frames.Answer.{Answer, TheVariants.Silence, TheVariants.Byte, TheVariants.Damaged}
-use Rattle.dali_frame.specs.declared.{frames.Forward.Forward, numbers.SearchAddress.SearchAddress}
-use Rattle.dali_special.specs.{Command.command_of, declared.command.Command.Command, declared.command.Command.TheVariants.RandomByte}
-use Rattle.dali_special.specs.declared.command.Part.TheVariants.{High, Middle, Low}
-use Rattle.dali_script.specs.{Records.Kept, Stages.stage_of, Stages.next_stage, Stages.byte_heard, Stages.bytes_heard, Stages.number_heard}
-use Rattle.dali_script.specs.declared.orders.{End.End, Fault.Fault, Order.Order}
-use Rattle.dali_script.specs.declared.orders.Order.TheVariants.{Put, Commit, Done, Halt}
-use Rattle.dali_script.{specs.declared.records.Record.Record, specs.declared.stage.Stage.Stage, proofs.Transactions.stage_more, proofs.Transactions.stage_none}
+use Rattle.dali_progress.proofs.Below.{◌≡◌, ℕ, ◌+◌, ◌*◌, ◌<◌, ◌≤◌, ◌⊎◌, inl, inr, Bool, true, false, [], refl, sym, ap, subst, ◌∙◌, arith, Option, Some, None}
+use Rattle.dali_progress.proofs.Below.{◌==◌, nat_lt, zero, suc, mul-le-mul_left, nat_tests, FIRST, LATER, Answer, Silence, Byte, Damaged, Forward}
+use Rattle.dali_progress.proofs.Below.{SearchAddress, command_of, Command, RandomByte, High, Middle, Low, Kept, stage_of, next_stage, byte_heard, bytes_heard}
+use Rattle.dali_progress.proofs.Below.{number_heard, End, Fault, Order, Put, Commit, Done, Halt, Record, Stage, stage_more, stage_none, Course, Machine}
+use Rattle.dali_progress.proofs.Below.{machine_heard, asked_at, asked_after_silence, next_course, begins_at, goes_on_to, asked_once, course_on, IsAllowed}
+use Rattle.dali_progress.proofs.Below.{machine_ordered, asked_by, MayCommit, IsWhole, IsSending, Pending, Sends, Resolving, Asking, Surveying}
+use Rattle.dali_controller.specs.Whole.{Knows}
 use Rattle.dali_script.specs.declared.stage.Stage.TheVariants as stage
-use Rattle.dali_controller.specs.{Course.Course, Machine.Machine, Machine.machine_heard, Machine.asked_at, Machine.asked_after_silence, Next.next_course}
-use Rattle.dali_controller.specs.{Next.begins_at, Next.goes_on_to, Next.asked_once, Next.course_on, Orders.IsAllowed, Orders.machine_ordered, Orders.asked_by}
-use Rattle.dali_controller.specs.{Orders.MayCommit, Whole.IsWhole, Whole.IsSending, Whole.Knows, Whole.Pending, Whole.Sends}
-use Rattle.dali_controller.specs.declared.{purpose.Purpose.TheVariants.Resolving, purpose.Purpose.TheVariants.Asking, way.Way.TheVariants.Surveying}
 use Rattle.dali_progress.proofs.Census.Left.{waits, at_stage, of_purpose, of_last, beyond, left, granted, beyond_less, beyond_most, granted_more, waits_least}
-use Rattle.dali_progress.proofs.Census.Left.{of_purpose_most, goes_moves, Further, Moves}
-use Rattle.dali_progress.proofs.Later.{IsUnasked, course_stays}
+use Rattle.dali_progress.proofs.{Census.Left.{of_purpose_most, goes_moves, Further, Moves}, Later.{IsUnasked, course_stays}}
 
 -- A CENSUS IS BOUNDED: what each order leaves once a frame of it was heard.
 

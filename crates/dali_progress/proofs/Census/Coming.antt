@@ -1,30 +1,19 @@
-use Rattle.std.proofs.Common.{◌≡◌, ℕ, ◌+◌, ◌<◌, ◌≤◌, ◌⊎◌, inl, inr, Bool, true, false, List, [], ◌∷◌, refl, sym, ap, subst, ◌∙◌, arith, Option, Some, None}
-use Rattle.std.proofs.Common.{◌==◌, ◌-◌, ◌||◌, nat_lt, not, zero, suc, is_some, MatchOption, if◌then◌else◌}
-use Rattle.std.{proofs.lemmas.Bool.Decides.nat_tests, specs.List.AllByRecursion}
-use Rattle.dali_frame.specs.{Priority.FIRST, Priority.LATER, Random.number_of}
-use Rattle.dali_frame.specs.declared.frames.{Answer.Answer, Answer.TheVariants.Silence, Answer.TheVariants.Byte, Answer.TheVariants.Damaged, Forward.Forward}
-use Rattle.dali_special.specs.Command.{command_of}
-use Rattle.dali_script.specs.{Due.due_after, Due.accepts, Due.frame_put, Due.record_ordered, Findings.finding_of, Records.Kept, Records.Has, Records.HasAddress}
-use Rattle.dali_script.specs.Stages.{stage_of, next_stage, leads, given, byte_heard, bytes_heard, number_heard, finding_at}
-use Rattle.dali_script.specs.declared.orders.{End.End, Fault.Fault, Input.Input, Order.Order}
-use Rattle.dali_script.specs.declared.orders.Order.TheVariants.{Put, Commit, Done, Halt}
-use Rattle.dali_script.specs.declared.{records.Record.Record, records.Record.TheVariants.Reserve, records.Record.TheVariants.Enrol, stage.Stage.Stage}
-use Rattle.dali_script.proofs.{Found.finding_after, Transactions.stage_more, Transactions.stage_none, Transactions.lawful_follows}
+use Rattle.dali_progress.proofs.Below.{◌≡◌, ℕ, ◌+◌, ◌<◌, ◌≤◌, ◌⊎◌, inl, inr, Bool, true, false, List, [], ◌∷◌, refl, sym, ap, subst, ◌∙◌, arith, Option, Some}
+use Rattle.dali_progress.proofs.Below.{None, ◌==◌, ◌-◌, ◌||◌, nat_lt, not, zero, suc, is_some, MatchOption, if◌then◌else◌, nat_tests, AllByRecursion, FIRST}
+use Rattle.dali_progress.proofs.Below.{LATER, number_of, Answer, Silence, Byte, Damaged, Forward, command_of, due_after, accepts, frame_put, record_ordered}
+use Rattle.dali_progress.proofs.Below.{finding_of, Kept, Has, HasAddress, stage_of, next_stage, leads, given, byte_heard, bytes_heard, number_heard, finding_at}
+use Rattle.dali_progress.proofs.Below.{End, Fault, Input, Order, Put, Commit, Done, Halt, Record, Reserve, Enrol, Stage, finding_after, stage_more, stage_none}
+use Rattle.dali_progress.proofs.Below.{lawful_follows, Course, number_at, is_asked, asked_among, next_asked, going_on, going_on_early, ask_or_call, Machine}
+use Rattle.dali_progress.proofs.Below.{at_first, machine_told, machine_heard, machine_committed, asked_at, asked_after, asked_after_silence, next_course}
+use Rattle.dali_progress.proofs.Below.{begins_at, goes_on_to, at_rest, asked_once, course_by, course_on, IsGiven, IsAllowed, MayCommit, machine_after}
+use Rattle.dali_progress.proofs.Below.{machine_ordered, asked_by, IsWhole, IsReady, IsSending, Pending, Sends, Purpose, Asking, Surveying, found_number}
+use Rattle.dali_progress.proofs.Below.{unwarranted, IsSurveyed, BeginsBySurvey, AreWhole, Step, IsTaken, IsCourse, IsPlain, ArePlain, stage_told}
+use Rattle.dali_controller.specs.Whole.{Knows}
 use Rattle.dali_script.specs.declared.orders.Fault.TheVariants as fault
 use Rattle.dali_script.specs.declared.orders.Input.TheVariants as input
 use Rattle.dali_script.specs.declared.stage.Stage.TheVariants as stage
-use Rattle.dali_controller.specs.Course.{Course, number_at, is_asked, asked_among, next_asked, going_on, going_on_early, ask_or_call}
-use Rattle.dali_controller.specs.Machine.{Machine, at_first, machine_told, machine_heard, machine_committed, asked_at, asked_after, asked_after_silence}
-use Rattle.dali_controller.specs.Next.{next_course, begins_at, goes_on_to, at_rest, asked_once, course_by, course_on}
-use Rattle.dali_controller.specs.Orders.{IsGiven, IsAllowed, MayCommit, machine_after, machine_ordered, asked_by}
-use Rattle.dali_controller.specs.Whole.{IsWhole, IsReady, IsSending, Pending, Sends, Knows}
-use Rattle.dali_controller.specs.declared.{purpose.Purpose.Purpose, purpose.Purpose.TheVariants.Asking, way.Way.TheVariants.Surveying}
-use Rattle.dali_controller.proofs.{Courses.found_number, Given.unwarranted}
-use Rattle.dali_progress.specs.{Census.IsSurveyed, Census.BeginsBySurvey, Census.AreWhole, Surveyed.Step, Surveyed.IsTaken, Surveyed.IsCourse, Surveyed.IsPlain}
-use Rattle.dali_progress.{specs.Surveyed.ArePlain, specs.Surveyed.stage_told, proofs.Accounted.unreserved, proofs.Accounted.told_keeps}
-use Rattle.dali_progress.proofs.Census.Asked.{by_order, Asks, asks_of, self, sending_of, by_kind}
-use Rattle.dali_progress.proofs.Census.Course.{IsAlone, alone_after, put_is, commit_is, started, runs_after}
-use Rattle.dali_progress.proofs.Later.{IsUnasked, asking_unasked, stays_at}
+use Rattle.dali_progress.proofs.{Accounted.{unreserved, told_keeps}, Census.Asked.{by_order, Asks, asks_of, self, sending_of, by_kind}, Census.Course.IsAlone}
+use Rattle.dali_progress.proofs.{Census.Course.{alone_after, put_is, commit_is, started, runs_after}, Later.{IsUnasked, asking_unasked, stays_at}}
 
 -- WHAT A CENSUS SEES of a short address: until it was asked, or the table names it, it is still to come.
 
@@ -73,6 +62,9 @@ IsToCome n a = (b : ℕ) × (n.course.purpose ≡ Asking b) × ((n.course.from �
 
 abbrev pub IsEnded : Machine → Type 0
 IsEnded n = ((e : End) × (n.last ≡ Some (Done e))) ⊎ ((w : Fault) × (n.last ≡ Some (Halt w)))
+
+abbrev pub IsSeen : Machine → ℕ → Type 0
+IsSeen n a = IsEnded n ⊎ (IsTabled n a ⊎ IsToCome n a)
 
 -- a transaction that begins: the next short address is asked, or all are accounted for
 pub begins_on : (t : Machine) (f : Forward) (a : ℕ) → a < 64 → t.course.way ≡ Surveying → t.course.opened ≡ false → t.course.from ≤ a
@@ -207,16 +199,16 @@ StaysOrGoes t = (next_course t ≡ t.course) ⊎ (next_course t ≡ goes_on_to t
 -- an address that comes later
 pub ahead : (t : Machine) (a b : ℕ) → a < 64 → t.course.purpose ≡ Asking b → t.course.way ≡ Surveying → t.course.opened ≡ false → t.course.from ≤ a
     → IsUnasked (stage_of t.trace) t.course.purpose → StaysOrGoes t
-    → (o : Order) → IsAllowed t o → IsEnded (machine_ordered t o) ⊎ (IsTabled (machine_ordered t o) a ⊎ IsToCome (machine_ordered t o) a)
+    → (o : Order) → IsAllowed t o → IsSeen (machine_ordered t o) a
 ahead t a b small purpose surveys opened low unasked next =
-    by_order t (λ o. IsEnded (machine_ordered t o) ⊎ (IsTabled (machine_ordered t o) a ⊎ IsToCome (machine_ordered t o) a)) (λ f. first f next)
+    by_order t (λ o. IsSeen (machine_ordered t o) a) (λ f. first f next)
     (λ f running. inr (inr (b, ap (λ c. c.purpose) stays ∙ purpose, inl (subst (λ (c : Course). c.from ≤ a) (sym stays) low))))
     (λ x. inr (inr (b, purpose, inl low))) (λ e. inl (inl (e, refl))) (λ w. inl (inr (w, refl))) where
       stays : course_on t (stage_of t.trace) ≡ t.course
       stays = stays_at t (stage_of t.trace) unasked
 
       first : (f : Forward) → StaysOrGoes t
-          → IsEnded (machine_ordered t (Put FIRST f)) ⊎ (IsTabled (machine_ordered t (Put FIRST f)) a ⊎ IsToCome (machine_ordered t (Put FIRST f)) a)
+          → IsSeen (machine_ordered t (Put FIRST f)) a
       first f (inl same) = inr (inr (b, ap (λ c. c.purpose) same ∙ purpose, inl (subst (λ (c : Course). c.from ≤ a) (sym same) low)))
       first f (inr goes) = inr (begins_on t f a small surveys opened low goes)
 
@@ -314,7 +306,7 @@ unreserving_after m i o running due given whole alone b purpose c r last =
 abbrev ComesNext : Machine → Input → Order → ℕ → ℕ → Type 0
 ComesNext m i o a b =
     ((h : Answer) × (i ≡ input.Heard h) × (b ≡ a))
-    ⊎ (IsEnded (machine_after m i o) ⊎ (IsTabled (machine_after m i o) a ⊎ IsToCome (machine_after m i o) a))
+    ⊎ (IsSeen (machine_after m i o) a)
 
 begins_by_stage : (t : Machine) (b : ℕ) (h : Answer) (m : Machine) → Hearing m t b h → StaysOrGoes t
 begins_by_stage t b h m hears = go hears.at where
@@ -337,7 +329,7 @@ heard_next : (m : Machine) (h : Answer) (o : Order) (a b p : ℕ) (f : Forward) 
     → ComesNext m (input.Heard h) o a b
 heard_next m h o a b p f small purpose last given whole (inr (here, none)) = inl (h, refl, here)
 heard_next m h o a b p f small purpose last given whole (inl low) =
-    inr (subst (λ t. IsEnded (machine_ordered t o) ⊎ (IsTabled (machine_ordered t o) a ⊎ IsToCome (machine_ordered t o) a)) (sym told)
+    inr (subst (λ t. IsSeen (machine_ordered t o) a) (sym told)
     (ahead (machine_heard m (Some f) h) a b small purpose counts.way hears.opened low
     (asking_unasked (stage_of (machine_heard m (Some f) h).trace) m.course.purpose b purpose)
     (begins_by_stage (machine_heard m (Some f) h) b h m hears) o
@@ -355,7 +347,7 @@ heard_next m h o a b p f small purpose last given whole (inl low) =
 lost_next : (m t : Machine) (o : Order) (a b p : ℕ) (f : Forward) → a < 64 → m.course.purpose ≡ Asking b → m.last ≡ Some (Put p f) → IsWhole m
     → t.course ≡ m.course → t.last ≡ m.last → t.trace ≡ [] → IsAllowed t o → IsWhole (machine_ordered t o)
     → ((m.course.from ≤ a) ⊎ ((b ≡ a) × ((x : Record) → m.last ≡ Some (Commit x) → ⊥)))
-    → IsEnded (machine_ordered t o) ⊎ (IsTabled (machine_ordered t o) a ⊎ IsToCome (machine_ordered t o) a)
+    → IsSeen (machine_ordered t o) a
 lost_next m t o a b p f small purpose last whole course same_last free may after which = go which where
   counts : Counting m b
   counts = counting_ready m b purpose (sending_of m p f last whole).ready
@@ -370,7 +362,7 @@ lost_next m t o a b p f small purpose last whole course same_last free may after
   asks = ap (λ c. c.purpose) course ∙ purpose
 
   go : (m.course.from ≤ a) ⊎ ((b ≡ a) × ((x : Record) → m.last ≡ Some (Commit x) → ⊥))
-      → IsEnded (machine_ordered t o) ⊎ (IsTabled (machine_ordered t o) a ⊎ IsToCome (machine_ordered t o) a)
+      → IsSeen (machine_ordered t o) a
   go (inl low) =
       ahead t a b small asks (ap (λ (c : Course). c.way) course ∙ counts.way) (ap (λ (c : Course). c.opened) course ∙ counts.opened)
       (subst (λ (c : Course). c.from ≤ a) (sym course) low)
@@ -381,7 +373,7 @@ lost_next m t o a b p f small purpose last whole course same_last free may after
       (λ g running whole. absurd (running free)) o may after)
     where
       by : IsEnded (machine_ordered t o) ⊎ IsToCome (machine_ordered t o) a
-          → IsEnded (machine_ordered t o) ⊎ (IsTabled (machine_ordered t o) a ⊎ IsToCome (machine_ordered t o) a)
+          → IsSeen (machine_ordered t o) a
       by (inl ends) = inl ends
       by (inr comes) = inr (inr comes)
 
@@ -389,8 +381,7 @@ lost_next m t o a b p f small purpose last whole course same_last free may after
 kept_next : (m : Machine) (x : Record) (o : Order) (a b : ℕ) → a < 64 → m.course.purpose ≡ Asking b → m.last ≡ Some (Commit x) → IsWhole m → m.trace ≡ []
     → ((c r : ℕ) → x ≡ Reserve c r → ⊥) → IsAllowed (machine_committed m (Some x)) o
     → ((m.course.from ≤ a) ⊎ ((b ≡ a) × ((y : Record) → m.last ≡ Some (Commit y) → ⊥)))
-    → IsEnded (machine_ordered (machine_committed m (Some x)) o)
-    ⊎ (IsTabled (machine_ordered (machine_committed m (Some x)) o) a ⊎ IsToCome (machine_ordered (machine_committed m (Some x)) o) a)
+    → IsSeen (machine_ordered (machine_committed m (Some x)) o) a
 kept_next m x o a b small purpose last whole free unreserved may (inr (here, none)) = absurd (none x last)
 kept_next m x o a b small purpose last whole free unreserved may (inl low) =
     ahead (machine_committed m (Some x)) a b small purpose counts.way counts.opened low (asking_unasked (stage_of m.trace) m.course.purpose b purpose)
@@ -426,7 +417,7 @@ comes_next m input.Lapsed o a b small running purpose due given whole alone afte
 comes_next m input.Committed o a b small running purpose due given whole alone after unreserved which =
     let kept = commit_is m.last due in
     let told : machine_told m input.Committed ≡ machine_committed m (Some kept.0) = ap (λ l. machine_committed m (record_ordered l)) kept.1 in
-    inr (subst (λ t. IsEnded (machine_ordered t o) ⊎ (IsTabled (machine_ordered t o) a ⊎ IsToCome (machine_ordered t o) a)) (sym told)
+    inr (subst (λ t. IsSeen (machine_ordered t o) a) (sym told)
     (kept_next m kept.0 o a b small purpose kept.1 whole (alone kept.0 kept.1)
     (λ c r is. unreserved c r (kept.1 ∙ ap (λ x. Some (Commit x)) is)) (subst (λ t. IsAllowed t o) told given.answered.allowed) which))
 comes_next m input.CommitFailed o a b small running purpose due given whole alone after unreserved which =
@@ -450,11 +441,9 @@ pub record Looks (Q : Step → Type 0) (L : List Step → Machine → ℕ → Ty
       ⊎ (IsEnded (machine_after s.before (input.Heard h) s.order) ⊎ IsToCome (machine_after s.before (input.Heard h) s.order) a)
 
 seen_first : (id : ℕ) (k : Kept) (o : Order) (a : ℕ) → a < 64 → IsAllowed (machine_told (at_first id k) input.Survey) o
-    → IsEnded (machine_after (at_first id k) input.Survey o)
-    ⊎ (IsTabled (machine_after (at_first id k) input.Survey o) a ⊎ IsToCome (machine_after (at_first id k) input.Survey o) a)
+    → IsSeen (machine_after (at_first id k) input.Survey o) a
 seen_first id k o a small =
-    by_kind (machine_told (at_first id k) input.Survey) (λ o. IsEnded (machine_after (at_first id k) input.Survey o)
-    ⊎ (IsTabled (machine_after (at_first id k) input.Survey o) a ⊎ IsToCome (machine_after (at_first id k) input.Survey o) a))
+    by_kind (machine_told (at_first id k) input.Survey) (λ o. IsSeen (machine_after (at_first id k) input.Survey o) a)
     (λ f. inr (begins_on (machine_told (at_first id k) input.Survey) f a small refl refl (omega arith) goes))
     (λ f running. absurd (running refl)) (λ x may. absurd (no_record (machine_told (at_first id k) input.Survey) stage.Free x stage_none (λ n e. cc) none_found
     (λ b n e. cc) may)) (λ e. inl (inl (e, refl))) (λ w. inl (inr (w, refl))) o where
@@ -539,8 +528,7 @@ module _ (Q : Step → Type 0) (L : List Step → Machine → ℕ → Type 0) (a
                     free_no_mask (machine_told (at_first id k) input.Survey) c r refl
                     (subst (λ q. IsGiven (at_first id k) input.Survey q) order g).answered.allowed
 
-                by : IsEnded (machine_after (at_first id k) input.Survey s.order)
-                    ⊎ (IsTabled (machine_after (at_first id k) input.Survey s.order) a ⊎ IsToCome (machine_after (at_first id k) input.Survey s.order) a)
+                by : IsSeen (machine_after (at_first id k) input.Survey s.order) a
                     → IsEnded (machine_after (at_first id k) input.Survey s.order)
                     ⊎ (L (s ∷ []) (machine_after (at_first id k) input.Survey s.order) a ⊎ IsToCome (machine_after (at_first id k) input.Survey s.order) a)
                 by (inl ends) = inl ends

@@ -1,22 +1,13 @@
-use Rattle.std.proofs.Common.{◌≡◌, ℕ, ◌+◌, ◌*◌, ◌<◌, ◌≤◌, ◌⊎◌, inl, inr, Bool, true, false, refl, sym, ap, subst, ◌∙◌, arith, Option, Some, None, ◌==◌, ◌&&◌}
-use Rattle.std.proofs.Common.{◌-◌, nat_lt, zero, suc, is_some, if◌then◌else◌}
-use Rattle.std.proofs.{Math.Nat.mul-le-mul_left, lemmas.Bool.Decides.nat_tests}
-use Rattle.dali_frame.specs.{Random.value_of, declared.frames.Answer.Answer, declared.numbers.SearchAddress.SearchAddress}
-use Rattle.dali_script.specs.{Records.Kept, Stages.stage_of}
-use Rattle.dali_script.specs.declared.orders.{End.TheVariants.AllFound, End.TheVariants.BlockFull, End.TheVariants.GaveUp, Order.Order, Order.TheVariants.Put}
-use Rattle.dali_script.specs.declared.{orders.Order.TheVariants.Commit, records.Record.TheVariants.Reserve, stage.Stage.Stage}
+use Rattle.dali_progress.proofs.Below.{◌≡◌, ℕ, ◌+◌, ◌*◌, ◌<◌, ◌≤◌, ◌⊎◌, inl, inr, Bool, true, false, refl, sym, ap, subst, ◌∙◌, arith, Option, Some, None, ◌==◌}
+use Rattle.dali_progress.proofs.Below.{◌&&◌, ◌-◌, nat_lt, zero, suc, is_some, if◌then◌else◌, mul-le-mul_left, nat_tests, value_of, Answer, SearchAddress, Kept}
+use Rattle.dali_progress.proofs.Below.{stage_of, BlockFull, Order, Put, Commit, Reserve, Stage, leads_to, ascent_at_first, answered, Again, Found, Nobody}
+use Rattle.dali_progress.proofs.Below.{Course, address_for, is_asked, asked_among, next_asked, is_yes, closing, going_on, going_on_early, ask_or_call}
+use Rattle.dali_progress.proofs.Below.{searching_first, searching_on, hunted, asking_again, next_unfinished, probed, after_step, Machine, begins_at, goes_on_to}
+use Rattle.dali_progress.proofs.Below.{at_rest, asked_once, silenced, silenced_on, missed_again, is_failed, most_silent, unanswered, hunted_in, hunted_to}
+use Rattle.dali_progress.proofs.Below.{has_open, may_draw, asks_again, full, ungiven, undrawn, is_blocked, called_to, compared_in, asked_on, course_on}
+use Rattle.dali_progress.proofs.Below.{asked_again, Purpose, Asking, Hunting, Calling, Way, Fresh, Surveying, either}
+use Rattle.dali_search.specs.declared.step.Step.{Step}
 use Rattle.dali_script.specs.declared.stage.Stage.TheVariants as stage
-use Rattle.dali_search.specs.{Ascending.leads_to, Ascending.ascent_at_first, Least.answered, declared.step.Step.Step}
-use Rattle.dali_search.specs.declared.step.Step.TheVariants.{Again, Found, Nobody}
-use Rattle.dali_controller.specs.Course.{Course, address_for, is_asked, asked_among, next_asked, is_yes, closing, going_on, going_on_early, ask_or_call}
-use Rattle.dali_controller.specs.Course.{hunting_on, hunting_first, hunting_above, searching_first, searching_on, hunted, missed, asking_again, opening_anew}
-use Rattle.dali_controller.specs.Course.{next_unfinished, opening_at_last, drawing, calling, passing_over, probed, after_step}
-use Rattle.dali_controller.specs.{Machine.Machine, Next.begins_at, Next.goes_on_to}
-use Rattle.dali_controller.specs.Next.{at_rest, asked_once, silenced, silenced_on, missed_again, is_failed, most_silent, unanswered, hunted_in, hunted_to}
-use Rattle.dali_controller.specs.Next.{has_open, may_draw, asks_again, full, ungiven, undrawn, is_blocked, blocked, called_to, compared_in, asked_on, course_on}
-use Rattle.dali_controller.specs.Tally.{asked_again, silent_call, heard_call}
-use Rattle.dali_controller.specs.declared.purpose.Purpose.{Purpose, TheVariants.Asking, TheVariants.Hunting, TheVariants.Calling}
-use Rattle.dali_controller.specs.declared.way.Way.{Way, TheVariants.Fresh, TheVariants.Surveying}
 
 -- A CENSUS IS BOUNDED: by how many of its frames may still be sent, which each of them makes fewer. What may still be sent, and
 -- that a transaction that begins never makes it more. `u` is 3 if the gear that is there may be silent twice and answer then, and 1
@@ -110,9 +101,9 @@ pub record Moves (c d : Course) : Type 0 where
 same_later : (n m : ℕ) → n ≡ m → 64 - n ≤ 64 - m
 same_later n m is = rw is (omega arith)
 
-pub quiet : (c d : Course) → d.way ≡ Surveying → d.tally.askings ≡ c.tally.askings → d.from ≡ c.from → ((u k : ℕ) (s : Stage) → of_purpose u k d.purpose s ≡ 0)
+pub quiet : {c d : Course} → d.way ≡ Surveying → d.tally.askings ≡ c.tally.askings → d.from ≡ c.from → ((u k : ℕ) (s : Stage) → of_purpose u k d.purpose s ≡ 0)
     → Moves c d
-quiet c d way askings from none = record { way = way; on = inl (askings, inl (same_later d.from c.from from, none)) }
+quiet {c} {d} way askings from none = record { way = way; on = inl (askings, inl (same_later d.from c.from from, none)) }
 
 pub asked_within : (k : Kept) (n from a : ℕ) → asked_among k n from ≡ Some a → (from ≤ a) × (a < from + n)
 asked_within k zero from a e = absurd (cc)
@@ -141,7 +132,7 @@ asks_next k c is =
     let with_it = asks_with c (next_asked k c.from) in record { way = with_it.0 ∙ is; on = inl (with_it.1, asks_further k c) }
 
 going_moves : (k : Kept) (opened : Bool) (c : Course) → c.way ≡ Surveying → Moves c (going_on k opened c)
-going_moves k true c is = subst (λ y. Moves c (searching_on y c)) (sym is) (quiet c (hunting_on c) is refl refl (λ u n s. refl))
+going_moves k true c is = subst (λ y. Moves c (searching_on y c)) (sym is) (quiet is refl refl (λ u n s. refl))
 going_moves k false c is = subst (λ y. Moves c (going_on_early k y c)) (sym is) (asks_next k c is)
 
 pub goes_moves : (t : Machine) → t.course.way ≡ Surveying → Moves t.course (goes_on_to t)
@@ -165,18 +156,14 @@ full_moves t d way askings from = go (asks_again t) refl where
       let less : nat_lt t.course.tally.askings 6 ≡ true =
       first_passes (nat_lt t.course.tally.askings 6) t.course.tally.is_missed (is_some (next_unfinished t.kept 0)) again in
       asking_moves t.kept t.course d (let few : t.course.tally.askings < 6 = grind (arith, nat_tests, less) in few) way askings
-  go false none = quiet t.course (closing d BlockFull) way askings from (λ u n s. refl)
+  go false none = quiet way askings from (λ u n s. refl)
 
 undrawn_moves : (t : Machine) (d : Course) → d.way ≡ Surveying → d.tally.askings ≡ t.course.tally.askings → d.from ≡ t.course.from
     → Moves t.course (undrawn t d)
-undrawn_moves t d way askings from = go (has_open t) where
-  draws : (b : Bool) → Moves t.course (if b then drawing d else closing d GaveUp)
-  draws true = quiet t.course (drawing d) way askings from (λ u n s. refl)
-  draws false = quiet t.course (closing d GaveUp) way askings from (λ u n s. refl)
-
-  go : (b : Bool) → Moves t.course (if b then (if nat_lt d.tally.draws 3 then drawing d else closing d GaveUp) else full t d)
-  go true = draws (nat_lt d.tally.draws 3)
-  go false = full_moves t d way askings from
+undrawn_moves t d way askings from =
+    either (Moves t.course) (has_open t)
+    (either (Moves t.course) (nat_lt d.tally.draws 3) (quiet way askings from (λ u n s. refl)) (quiet way askings from (λ u n s. refl)))
+    (full_moves t d way askings from)
 
 -- a question of a search, of a hunt or of a roll call was answered
 probed_moves : (t : Machine) (h : Answer) → t.course.way ≡ Surveying → Moves t.course (probed t.course h)
@@ -184,34 +171,24 @@ probed_moves t h is = go (answered t.course.search (is_yes h)) where
   go : (s : _) → Moves t.course (after_step s.step (record t.course { search = s }))
   go s = by s.step where
     by : (x : _) → Moves t.course (after_step x (record t.course { search = s }))
-    by Again = quiet t.course (after_step Again (record t.course { search = s })) is refl refl (λ u n s. refl)
-    by (Found r) = quiet t.course (after_step (Found r) (record t.course { search = s })) is refl refl (λ u n s. refl)
-    by Nobody = quiet t.course (after_step Nobody (record t.course { search = s })) is refl refl (λ u n s. refl)
+    by Again = quiet is refl refl (λ u n s. refl)
+    by (Found r) = quiet is refl refl (λ u n s. refl)
+    by Nobody = quiet is refl refl (λ u n s. refl)
 
 pub hunted_moves : (t : Machine) (h : Answer) → t.course.way ≡ Surveying → Moves t.course (hunted_in t h)
 hunted_moves t h is = go (leads_to (hunted t.course h).ascent) where
-  nobody : (b : Bool) → Moves t.course (if b then undrawn t (hunted t.course h) else calling (hunted t.course h))
-  nobody true = undrawn_moves t (hunted t.course h) is refl refl
-  nobody false = quiet t.course (calling (hunted t.course h)) is refl refl (λ u n s. refl)
-
   go : (x : Step) → Moves t.course (hunted_to t x (hunted t.course h))
-  go Again = quiet t.course (hunted_to t Again (hunted t.course h)) is refl refl (λ u n s. refl)
-  go (Found r) = quiet t.course (hunted_to t (Found r) (hunted t.course h)) is refl refl (λ u n s. refl)
-  go Nobody = nobody ((hunted t.course h).ascent.found == 0)
+  go Again = quiet is refl refl (λ u n s. refl)
+  go (Found r) = quiet is refl refl (λ u n s. refl)
+  go Nobody =
+      either (Moves t.course) ((hunted t.course h).ascent.found == 0) (undrawn_moves t (hunted t.course h) is refl refl) (quiet is refl refl (λ u n s. refl))
 
 called_moves : (t : Machine) (b : Bool) → t.course.way ≡ Surveying → Moves t.course (called_to t b t.course)
-called_moves t false is = go t.course.tally.is_silent where
-  go : (b : Bool) → Moves t.course (if b then closing t.course AllFound else calling (record t.course { tally = silent_call t.course.tally }))
-  go true = quiet t.course (closing t.course AllFound) is refl refl (λ u n s. refl)
-  go false = quiet t.course (calling (record t.course { tally = silent_call t.course.tally })) is refl refl (λ u n s. refl)
-called_moves t true is = go (is_blocked t.course.tally) where
-  draws : (b : Bool) → Moves t.course (if b then opening_at_last t.course else closing t.course GaveUp)
-  draws true = quiet t.course (opening_at_last t.course) is refl refl (λ u n s. refl)
-  draws false = quiet t.course (closing t.course GaveUp) is refl refl (λ u n s. refl)
-
-  go : (b : Bool) → Moves t.course (if b then blocked t else hunting_first (record t.course { tally = heard_call t.course.tally }))
-  go true = draws (may_draw t)
-  go false = quiet t.course (hunting_first (record t.course { tally = heard_call t.course.tally })) is refl refl (λ u n s. refl)
+called_moves t false is =
+    either (Moves t.course) t.course.tally.is_silent (quiet is refl refl (λ u n s. refl)) (quiet is refl refl (λ u n s. refl))
+called_moves t true is =
+    either (Moves t.course) (is_blocked t.course.tally)
+    (either (Moves t.course) (may_draw t) (quiet is refl refl (λ u n s. refl)) (quiet is refl refl (λ u n s. refl))) (quiet is refl refl (λ u n s. refl))
 
 compared_moves : (t : Machine) (p : Purpose) (h : Answer) → t.course.way ≡ Surveying → Moves t.course (compared_in t p h)
 compared_moves t Calling h is = called_moves t (is_yes h) is
@@ -219,26 +196,22 @@ compared_moves t _ h is = hunted_moves t h is
 
 first_moves : (t : Machine) → t.course.way ≡ Surveying → Moves t.course (searching_first t.course.way t.course)
 first_moves t is =
-    subst (λ y. Moves t.course (searching_first y t.course)) (sym is) (quiet t.course (hunting_first t.course) is refl refl (λ u n s. refl))
+    subst (λ y. Moves t.course (searching_first y t.course)) (sym is) (quiet is refl refl (λ u n s. refl))
 
 ungiven_moves : (t : Machine) → t.course.way ≡ Surveying → Moves t.course (ungiven t t.course.way)
-ungiven_moves t is = subst (λ y. Moves t.course (ungiven t y)) (sym is) (go (may_draw t)) where
-  go : (b : Bool) → Moves t.course (if b then opening_anew t.course else full t t.course)
-  go true = quiet t.course (opening_anew t.course) is refl refl (λ u n s. refl)
-  go false = full_moves t t.course is refl refl
+ungiven_moves t is = subst (λ y. Moves t.course (ungiven t y)) (sym is)
+    (either (Moves t.course) (may_draw t) (quiet is refl refl (λ u n s. refl)) (full_moves t t.course is refl refl))
 
 silenced_moves : (t : Machine) → t.course.way ≡ Surveying → Moves t.course (silenced t)
-silenced_moves t is = go (t.silent == most_silent t.course.way) where
-  again : (b : Bool) → Moves t.course (missed_again b t.course)
-  again true = quiet t.course (passing_over t.course) is refl refl (λ u n s. refl)
-  again false = quiet t.course (missed t.course) is refl refl (λ u n s. refl)
-
-  go : (b : Bool) → Moves t.course (if b then closing t.course GaveUp else silenced_on t t.course.way)
-  go true = quiet t.course (closing t.course GaveUp) is refl refl (λ u n s. refl)
-  go false = subst (λ y. Moves t.course (silenced_on t y)) (sym is) (again (is_failed t.course.tally.failed (value_of t.course.number)))
+silenced_moves t is =
+    either (Moves t.course) (t.silent == most_silent t.course.way) (quiet is refl refl (λ u n s. refl))
+    (subst (λ y. Moves t.course (silenced_on t y)) (sym is) (again (is_failed t.course.tally.failed (value_of t.course.number)))) where
+      again : (b : Bool) → Moves t.course (missed_again b t.course)
+      again true = quiet is refl refl (λ u n s. refl)
+      again false = quiet is refl refl (λ u n s. refl)
 
 unanswered_moves : (t : Machine) (r : SearchAddress) (opened : Bool) (o : Option ℕ) → t.course.way ≡ Surveying → Moves t.course (unanswered t r opened o)
-unanswered_moves t r false (Some a) is = quiet t.course (unanswered t r false (Some a)) is refl refl (λ u n s. refl)
+unanswered_moves t r false (Some a) is = quiet is refl refl (λ u n s. refl)
 unanswered_moves t r false None is = silenced_moves t is
 unanswered_moves t r true o is = silenced_moves t is
 
@@ -248,7 +221,7 @@ StaysOrMoves c d = (d ≡ c) ⊎ Moves c d
 
 rest_moves : (t : Machine) (last : Option Order) → t.course.way ≡ Surveying → StaysOrMoves t.course (at_rest t last)
 rest_moves t (Some (Put p f)) is = inl refl
-rest_moves t (Some (Commit (Reserve a n))) is = inr (quiet t.course (at_rest t (Some (Commit (Reserve a n)))) is refl refl (λ u k s. refl))
+rest_moves t (Some (Commit (Reserve a n))) is = inr (quiet is refl refl (λ u k s. refl))
 rest_moves t _ is = inr (goes_moves t is)
 
 once_moves : (t : Machine) (b : Bool) → t.course.way ≡ Surveying → StaysOrMoves t.course (asked_once t b)
@@ -265,7 +238,7 @@ begins_moves t (stage.Hunted r (Some h) left) is = inr (compared_moves t t.cours
 begins_moves t (stage.Unnamed r) is = inr (ungiven_moves t is)
 begins_moves t (stage.Unanswered r) is = inr (unanswered_moves t r t.course.opened (address_for t.kept.reserved (value_of r)) is)
 begins_moves t (stage.Inconclusive r other) is = inr (silenced_moves t is)
-begins_moves t (stage.PassedOver r) is = inr (quiet t.course (hunting_above t.course) is refl refl (λ u k s. refl))
+begins_moves t (stage.PassedOver r) is = inr (quiet is refl refl (λ u k s. refl))
 begins_moves t _ is = inr (goes_moves t is)
 
 -- a later frame leaves the course, or it is the next question of a hunt

@@ -1,19 +1,13 @@
-use Rattle.std.proofs.Common.{◌≡◌, ℕ, ◌<◌, ◌≤◌, ◌⊎◌, inl, inr, true, false, List, [], ◌∷◌, refl, sym, ap, subst, ◌∙◌, arith, Option, Some, None, ◌==◌, zero}
-use Rattle.std.{proofs.Common.suc, specs.List.AllByRecursion}
-use Rattle.dali_frame.specs.declared.frames.{Answer.Answer, Answer.TheVariants.Silence, Answer.TheVariants.Byte, Answer.TheVariants.Damaged, Forward.Forward}
-use Rattle.dali_special.specs.declared.command.Command.{Command}
-use Rattle.dali_script.specs.{Due.due_after, Due.accepts, Due.frame_put, Stages.stage_of, Stages.given, Stages.byte_heard, Stages.finding_at}
-use Rattle.dali_script.specs.declared.orders.Order.{Order, TheVariants.Put, TheVariants.Commit, TheVariants.Done, TheVariants.Halt}
-use Rattle.dali_script.specs.declared.records.Record.TheVariants.{Reserve, Enrol}
+use Rattle.dali_progress.proofs.Below.{◌≡◌, ℕ, ◌<◌, ◌≤◌, ◌⊎◌, inl, inr, true, false, List, [], ◌∷◌, refl, sym, ap, subst, ◌∙◌, arith, Option, Some, None, ◌==◌}
+use Rattle.dali_progress.proofs.Below.{zero, suc, AllByRecursion, Answer, Silence, Byte, Damaged, Forward, Command, due_after, accepts, frame_put, stage_of}
+use Rattle.dali_progress.proofs.Below.{given, byte_heard, finding_at, Order, Put, Commit, Done, Halt, Reserve, Enrol, Machine, machine_told, machine_heard}
+use Rattle.dali_progress.proofs.Below.{asked_at, begins_at, asked_once, IsGiven, IsAllowed, machine_after, machine_ordered, IsWhole, Asking, Fresh}
+use Rattle.dali_progress.proofs.Below.{BeginsBySurvey, AreWhole, WasSilent, Step, IsTaken, IsCourse, IsPlain, ArePlain, IsAccounted, stage_told, heard_at}
+use Rattle.dali_progress.proofs.Below.{heard_by}
 use Rattle.dali_script.specs.declared.orders.Input.TheVariants as input
 use Rattle.dali_script.specs.declared.stage.Stage.TheVariants as stage
-use Rattle.dali_controller.specs.Machine.{Machine, machine_told, machine_heard, asked_at}
-use Rattle.dali_controller.specs.{Next.begins_at, Next.asked_once, Orders.IsGiven, Orders.IsAllowed, Orders.machine_after, Orders.machine_ordered}
-use Rattle.dali_controller.specs.{Whole.IsWhole, declared.purpose.Purpose.TheVariants.Asking, declared.way.Way.TheVariants.Fresh}
-use Rattle.dali_progress.specs.Census.{BeginsBySurvey, AreWhole, WasSilent}
-use Rattle.dali_progress.specs.Surveyed.{Step, IsTaken, IsCourse, IsPlain, ArePlain, IsAccounted, stage_told, heard_at, heard_by}
-use Rattle.dali_progress.proofs.{Accounted.accounted_by, Accounted.accounted_stays, Accounted.unreserved, Census.Asked.Asks, Census.Asked.later_asks}
-use Rattle.dali_progress.proofs.Census.Coming.{IsToCome, IsEnded, Hearing, hearing_of, again, Looks, Watched, watched}
+use Rattle.dali_progress.proofs.{Accounted.{accounted_by, accounted_stays, unreserved}, Census.Asked.{Asks, later_asks}, Census.Coming.{IsToCome, IsEnded}}
+use Rattle.dali_progress.proofs.Census.Coming.{Hearing, hearing_of, again, Looks, Watched, watched}
 
 -- WHAT IS GIVEN WAS SILENT: once a census is over, each short address was silent or is accounted for.
 

@@ -1,16 +1,34 @@
-use Rattle.std.proofs.Common.{◌≡◌, ℕ, ◌<◌, ◌≤◌, ◌⊎◌, inl, inr, Bool, true, false, List, [], ◌∷◌, refl, sym, ap, subst, ◌∙◌, arith, Some, ◌==◌}
-use Rattle.std.{proofs.lemmas.Bool.Decides.nat_tests, specs.List.AllByRecursion}
-use Rattle.dali_frame.specs.{Random.MASK24, declared.frames.Answer.Answer, declared.frames.Answer.TheVariants.Byte, declared.frames.Forward.Forward}
-use Rattle.dali_special.specs.declared.command.{Command.Command, Command.TheVariants.RandomByte, Part.TheVariants.Middle, Part.TheVariants.Low}
-use Rattle.dali_script.specs.{Due.frame_put, Stages.stage_of, Stages.given, declared.orders.Order.TheVariants.Put, declared.stage.Stage.Stage}
-use Rattle.dali_script.specs.declared.orders.Input.TheVariants as input
+use Rattle.dali_progress.proofs.Below.{◌≡◌, ℕ, ◌<◌, inl, inr, true, List, [], ◌∷◌, sym, subst, Some, ◌≤◌, ◌⊎◌, Bool, false, refl, ap, ◌∙◌, arith, ◌==◌}
+use Rattle.dali_progress.proofs.Below.{nat_tests, AllByRecursion, MASK24, Answer, Byte, Forward, due_after, accepts, frame_put, stage_of, given, Put, Stage}
+use Rattle.dali_progress.proofs.Below.{Machine, machine_told, machine_heard, IsGiven, machine_after, machine_ordered, turn_of, IsWhole, Asking, Spells}
+use Rattle.dali_progress.proofs.Below.{WasSpelled, IsNamed, IsClean, HasTakenCensus, BeginsBySurvey, AreWhole, Step, IsTaken, IsCourse, IsPlain, ArePlain}
+use Rattle.dali_progress.proofs.Below.{Command, RandomByte, Middle, Low}
 use Rattle.dali_script.specs.declared.stage.Stage.TheVariants as stage
-use Rattle.dali_controller.specs.{Course.turn_of, Machine.Machine, Machine.machine_told, Machine.machine_heard, Orders.IsGiven, Orders.machine_after}
-use Rattle.dali_controller.specs.{Orders.machine_ordered, Whole.IsWhole, declared.purpose.Purpose.TheVariants.Asking}
-use Rattle.dali_progress.specs.{Census.IsClean, Census.WasSpelled, Census.HasTakenCensus, Census.IsNamed, Census.BeginsBySurvey, Census.AreWhole, Surveyed.Step}
-use Rattle.dali_progress.{specs.Surveyed.IsTaken, specs.Surveyed.IsCourse, specs.Surveyed.IsPlain, specs.Surveyed.ArePlain, proofs.Accounted.told_enrolled}
-use Rattle.dali_progress.proofs.Census.Coming.{IsTabled, IsToCome, IsEnded, Hearing, hearing_of, Looks, watched}
-use Rattle.dali_progress.proofs.{Census.Told.who_told, Later.IsUnasked, Later.course_stays, Later.turn_unasked}
+use Rattle.dali_script.specs.declared.orders.Input.TheVariants as input
+use Rattle.dali_progress.proofs.{Accounted.{told_enrolled, never_due, named_by, enrolling}, Census.Coming.{IsTabled, IsToCome, IsEnded, Hearing, hearing_of}}
+use Rattle.dali_progress.proofs.{Census.Coming.{Looks, watched}, Later.{IsUnasked, course_stays, turn_unasked}}
+
+-- WHO TOLD ITS RANDOM ADDRESS IS IN THE TABLE.
+
+stays_named : (s : Step) (n : Machine) (a r : ℕ) → IsTaken s n → IsNamed s.before a r → IsNamed n a r
+stays_named s n a r taken was = subst (λ (x : Machine). IsNamed x a r) (sym taken.after) (go was) where
+  go : IsNamed s.before a r → IsNamed (machine_after s.before s.told s.order) a r
+  go (inl has) = inl (told_enrolled s.before s.told (a, r) has)
+  go (inr (inl last)) = enrolling s.before s.told s.order a r last taken.due taken.given
+  go (inr (inr (w, last))) = absurd (never_due s.before.last w s.told last taken.due)
+
+told_named : (s : Step) (n : Machine) (a r : ℕ) → IsTaken s n → r < MASK24 → Spells s a r → IsNamed n a r
+told_named s n a r taken drawn tells =
+    subst (λ (x : Machine). IsNamed x a r) (sym taken.after)
+    (subst (λ i. accepts (due_after s.before.last) i ≡ true → IsGiven s.before i s.order → stage_of (machine_told s.before i).trace ≡ stage.Spelled a (Some r)
+    → IsNamed (machine_after s.before i s.order) a r) (sym tells.heard.1)
+    (λ due given number. named_by s.before tells.heard.0 s.order a tells.asking.0 r due given tells.asking.1 number drawn)
+    taken.due taken.given tells.number)
+
+pub who_told : (steps : List Step) (n : Machine) (a r : ℕ) → IsCourse steps n → r < MASK24 → WasSpelled steps a r → IsNamed n a r
+who_told [] n a r course drawn spelled = elim spelled [ ]
+who_told (s ∷ earlier) n a r course drawn (inl here) = told_named s n a r course.1 drawn here
+who_told (s ∷ earlier) n a r course drawn (inr before) = stays_named s n a r course.1 (who_told earlier s.before a r course.0 drawn before)
 
 -- WHO ANSWERS IS NAMED: once a census is over, an address under which each answer was a byte is in the table, or told FFFFFF.
 

@@ -1,38 +1,21 @@
-use Rattle.std.proofs.Common.{◌≡◌, ℕ, ◌-◌, ◌+◌, ◌*◌, ◌<◌, ◌≤◌, ◌⊎◌, inl, inr, Bool, true, false, List, [], refl, sym, ap, subst, ◌∙◌, arith, length, Option}
-use Rattle.std.proofs.Common.{Some, None, not, nat_lt, if◌then◌else◌}
-use Rattle.std.proofs.lemmas.Bool.Decides.{nat_tests}
-use Rattle.dali_frame.specs.{Priority.LATER, Random.MASK24, declared.frames.Forward.Forward, declared.numbers.SearchAddress.SearchAddress}
-use Rattle.dali_special.specs.{Command.frame_of, declared.command.Command.Command}
-use Rattle.dali_gear.specs.Gear.{Gear}
-use Rattle.dali_script.specs.{Records.Kept, Records.Has, Records.with_record, Stages.IsTrace, Stages.stage_of, declared.orders.End.TheVariants.BlockFull}
-use Rattle.dali_script.specs.declared.orders.Order.{Order, TheVariants.Put, TheVariants.Commit, TheVariants.Done, TheVariants.Halt}
-use Rattle.dali_script.specs.declared.records.Record.{Record, TheVariants.Reserve, TheVariants.Enrol, TheVariants.Release}
-use Rattle.dali_script.{specs.declared.stage.Stage.Stage, proofs.Found.trace_none, proofs.Transactions.stage_none}
+use Rattle.dali_progress.proofs.Below.{◌≡◌, ℕ, ◌-◌, ◌+◌, ◌*◌, ◌<◌, ◌≤◌, ◌⊎◌, inl, inr, Bool, true, false, List, [], refl, sym, ap, subst, ◌∙◌, arith, Option}
+use Rattle.dali_progress.proofs.Below.{Some, None, not, nat_lt, if◌then◌else◌, nat_tests, LATER, MASK24, Forward, SearchAddress, frame_of, Command, Gear, Kept}
+use Rattle.dali_progress.proofs.Below.{Has, with_record, IsTrace, stage_of, BlockFull, Order, Put, Commit, Done, Halt, Record, Reserve, Enrol, Release, Stage}
+use Rattle.dali_progress.proofs.Below.{trace_none, stage_none, Ascent, ascent_at_first, above, gone_on_from, one_if, Course, is_asked, turn_of, asking}
+use Rattle.dali_progress.proofs.Below.{calling_first, ask_or_call, asking_again, next_asked, going_on, going_on_early, hunting, hunting_first, hunting_above}
+use Rattle.dali_progress.proofs.Below.{searching_on, closing as closing_by, Machine, next_course, beginning, goes_on_to, asks_again, full, is_failed}
+use Rattle.dali_progress.proofs.Below.{machine_ordered, served, asked_again, Purpose, Hunting, Visiting, PassingOver, Shorts, Tally, Surveying, IsGivenBy}
+use Rattle.dali_progress.proofs.Below.{gear_of, is_wanted, wants, OpenedBy}
 use Rattle.dali_script.specs.declared.stage.Stage.TheVariants as stage
-use Rattle.dali_search.specs.Ascending.{Ascent, ascent_at_first, above, gone_on_from, one_if}
-use Rattle.dali_controller.specs.Course.{Course, is_asked, turn_of, asking, calling_first, ask_or_call, asking_again, next_asked, going_on, going_on_early}
-use Rattle.dali_controller.specs.Course.{hunting, hunting_first, hunting_above, searching_on, closing as closing_by}
-use Rattle.dali_controller.specs.{Machine.Machine, Next.next_course, Next.beginning, Next.goes_on_to, Next.asks_again, Next.full, Next.is_failed}
-use Rattle.dali_controller.specs.{Orders.machine_ordered, Tally.served, Tally.asked_again}
-use Rattle.dali_controller.specs.declared.purpose.Purpose.{Purpose, TheVariants.Hunting, TheVariants.Visiting, TheVariants.PassingOver}
-use Rattle.dali_controller.specs.declared.{shorts.Shorts.Shorts, tally.Tally.Tally, way.Way.TheVariants.Surveying}
-use Rattle.dali_controller.proofs.Given.{IsGivenBy}
 use Rattle.dali_controller.proofs.Given as given
-use Rattle.dali_events.{specs.Wanted.gear_of, specs.Wanted.is_wanted, specs.Wanted.wants, proofs.Search.Opened.OpenedBy}
-use Rattle.dali_progress.proofs.Census.Coming.{asked_later, asked_before, unasked_enrolled}
-use Rattle.dali_progress.proofs.{Census.Left.asked_within, Later.IsUnasked, Later.later_leaves, Later.turn_unasked, Misheard.Gear.Each}
-use Rattle.dali_progress.proofs.Misheard.{Gear.AreSought, Gear.AreBare, Gear.AreKnown, Stands.IsCounted, Stands.IsSpent, Stands.HuntStage, Stands.Rises}
-use Rattle.dali_progress.proofs.Misheard.Stands.{IsReached, IsPast, HuntAt, Hunts, EndsBy, AreTabledBelow, AreSeen, IsCensus, KnownAt, At, MisheardStands}
-use Rattle.dali_progress.proofs.Survey.{Drawn.woken_short, Queried.OneShort, Queried.IsTrue, Stands.AreTaken, Woken.AreLow}
-use Rattle.dali_progress.proofs.Surveying.{roll_first, IsClear}
 use Rattle.dali_progress.proofs.Misheard.Climbing as climbing
+use Rattle.dali_progress.proofs.{Census.Coming.{asked_later, asked_before, unasked_enrolled}, Census.Left.asked_within, Later.{IsUnasked, later_leaves}}
+use Rattle.dali_progress.proofs.{Later.turn_unasked, Misheard.Gear.{Each, AreSought, AreBare, AreKnown}, Misheard.Stands.{IsCounted, IsSpent, HuntStage, Rises}}
+use Rattle.dali_progress.proofs.Misheard.Stands.{IsReached, IsPast, HuntAt, Hunts, EndsBy, AreTabledBelow, AreSeen, IsCensus, KnownAt, At, MisheardStands, Calm}
+use Rattle.dali_progress.proofs.{Survey.Drawn.woken_short, Survey.Queried.{OneShort, IsTrue}, Survey.Stands.AreTaken, Survey.Woken.AreLow, Surveying.roll_first}
+use Rattle.dali_progress.proofs.{Surveying.IsClear}
 
 -- A TRANSACTION BEGINS, or goes on; and what is to come of an order.
-
-pub record Calm (g : ℕ) (m : Machine) (gs : List Gear) : Type 0 where
-  pub there : g < length gs
-  pub tries : m.tries ≡ 0
-  pub way : m.course.way ≡ Surveying
 
 -- a record is to be kept in the census, and then the next short address is asked. If that is done for the first time, something
 -- else that is reserved for the number may be released then.
@@ -44,7 +27,7 @@ pub record KeepsAsked (g : ℕ) (k : Kept) (heard : Shorts) (c : Course) (silent
   pub census : IsCensus c.from c.tally k heard gs
 
 -- one is to be kept of a visit that succeeded, and then the search goes on above it
-pub record KeepsPast (g : ℕ) (k : Kept) (heard : Shorts) (c : Course) (silent : ℕ) (gs : List Gear) : Type 0 where
+pub record Past (g : ℕ) (c : Course) (silent : ℕ) (gs : List Gear) : Type 0 where
   pub opened_is : c.opened ≡ true
   pub counted : IsCounted g c.tally silent 0 gs
   pub low : AreLow gs
@@ -54,7 +37,9 @@ pub record KeepsPast (g : ℕ) (k : Kept) (heard : Shorts) (c : Course) (silent 
   pub visited : ℕ
   pub drawn : visited < MASK24
   pub past : IsPast c.ascent visited gs
-  pub known : AreSeen k heard gs
+
+abbrev pub KeepsPast : ℕ → Kept → Shorts → Course → ℕ → List Gear → Type 0
+KeepsPast g k heard c silent gs = Past g c silent gs × AreSeen k heard gs
 
 -- a reservation is to be kept, and then its gear is visited once more
 pub record KeepsReserved (g : ℕ) (k : Kept) (heard : Shorts) (c : Course) (silent a r : ℕ) (gs : List Gear) : Type 0 where
@@ -92,11 +77,8 @@ IsNext g m (Commit x) gs = Calm g m gs × Keeps g m.kept m.heard m.course m.sile
 IsNext g m (Done e) gs = EndsBy g e m.kept m.heard gs
 IsNext g m (Halt why) gs = ⊥
 
-pub calm_ordered : {told : Bool} (g : ℕ) (t : Machine) (x : Record) (gs : List Gear) → MisheardStands told g t gs → Calm g (machine_ordered t (Commit x)) gs
-calm_ordered g t x gs st = record { there = st.there; tries = st.tries; way = st.way }
-
-pub calm_of : {told : Bool} (g : ℕ) (t : Machine) (gs : List Gear) → MisheardStands told g t gs → Calm g t gs
-calm_of g t gs st = record { there = st.there; tries = st.tries; way = st.way }
+abbrev pub GoesTo : ℕ → Machine → Order → List Gear → Type 0
+GoesTo g t o gs = IsNext g (machine_ordered t o) o gs
 
 -- ---------------------------------------------------------------- a later frame
 
@@ -138,12 +120,10 @@ untold g PassingOver s k heard c silent gs unasked at = hunts_untold g PassingOv
 untold g _ s k heard c silent gs unasked at = at
 
 pub later_by : (g : ℕ) (t : Machine) (o : Order) (s : Stage) (f : Forward) (gs : List Gear) → MisheardStands true g t gs → o ≡ Put LATER f
-    → stage_of t.trace ≡ s → IsUnasked s t.course.purpose → IsNext g (machine_ordered t o) o gs
-later_by g t o s f gs st is at unasked = subst (λ q. IsNext g (machine_ordered t q) q gs) (sym is)
+    → stage_of t.trace ≡ s → IsUnasked s t.course.purpose → GoesTo g t o gs
+later_by g t o s f gs st is at unasked = subst (λ q. GoesTo g t q gs) (sym is)
     (subst (λ m. IsNext g m (Put LATER f) gs) (sym (later_leaves t f s at unasked)) (record {
-      there = st.there;
-      tries = st.tries;
-      way = st.way;
+      calm = st.calm;
       trace = st.trace;
       at = untold g t.course.purpose (stage_of t.trace) t.kept t.heard t.course t.silent gs
           (subst (λ q. IsUnasked q t.course.purpose) (sym at) unasked) st.at;
@@ -151,7 +131,7 @@ later_by g t o s f gs st is at unasked = subst (λ q. IsNext g (machine_ordered 
     }))
 
 pub turns_by : (g : ℕ) (t : Machine) (o : Order) (p : Purpose) (s : Stage) (c : Command) (gs : List Gear) → IsGivenBy t o → MisheardStands true g t gs
-    → t.course.purpose ≡ p → stage_of t.trace ≡ s → turn_of p t.course.number s ≡ Some c → IsNext g (machine_ordered t o) o gs
+    → t.course.purpose ≡ p → stage_of t.trace ≡ s → turn_of p t.course.number s ≡ Some c → GoesTo g t o gs
 turns_by g t o p s c gs by st purpose at turn =
     later_by g t o s (frame_of c) gs st (given.turns t o c by (rw (purpose, at) turn)) at
     (subst (IsUnasked s) (sym purpose) (turn_unasked p t.course.number s c turn))
@@ -160,11 +140,9 @@ turns_by g t o p s c gs by st purpose at turn =
 
 pub first_by : (g : ℕ) (t : Machine) (o : Order) (cs : Course) (gs : List Gear) → Calm g t gs → o ≡ beginning (next_course t) → next_course t ≡ cs
     → cs.way ≡ Surveying → At false g cs.purpose stage.Free t.kept t.heard cs t.silent gs → KnownAt g cs.purpose stage.Free t.kept t.heard cs gs
-    → IsNext g (machine_ordered t o) o gs
-first_by g t o cs gs calm is same way at known = subst (λ q. IsNext g (machine_ordered t q) q gs) (sym is) (record {
-  there = calm.there;
-  tries = calm.tries;
-  way = subst (λ (d : Course). d.way ≡ Surveying) (sym same) way;
+    → GoesTo g t o gs
+first_by g t o cs gs calm is same way at known = subst (λ q. GoesTo g t q gs) (sym is) (record {
+  calm = record { there = calm.there; untried = calm.untried; way = subst (λ (d : Course). d.way ≡ Surveying) (sym same) way };
   trace = subst (λ s. IsTrace s []) (sym stage_none) trace_none;
   at = subst (λ s. At false g (next_course t).purpose s t.kept t.heard (next_course t) t.silent gs) (sym stage_none)
       (subst (λ (d : Course). At false g d.purpose stage.Free t.kept t.heard d t.silent gs) (sym same) at);
@@ -204,12 +182,12 @@ census_on f d y k heard gs one holds unasked (inr later) = inr later
 -- the next short address, or the roll call
 pub asks_or_calls : (g : ℕ) (t : Machine) (o : Order) (c : Course) (f : ℕ) (gs : List Gear) → Calm g t gs → o ≡ beginning (next_course t)
     → next_course t ≡ ask_or_call c (next_asked t.kept f) → c.way ≡ Surveying → c.opened ≡ false → IsCounted g c.tally t.silent 0 gs → f ≤ 64
-    → IsClear t.kept t.heard → IsCensus f c.tally t.kept t.heard gs → OneShort gs → IsTrue t.kept.enrolled gs → IsNext g (machine_ordered t o) o gs
+    → IsClear t.kept t.heard → IsCensus f c.tally t.kept t.heard gs → OneShort gs → IsTrue t.kept.enrolled gs → GoesTo g t o gs
 asks_or_calls g t o c f gs calm is same way unopened counted few clear census one holds =
     go (next_asked t.kept f) same (asked_later t.kept (64 - f) f) (asked_before t.kept (64 - f) f) (asked_within t.kept (64 - f) f) where
       go : (next : Option ℕ) → next_course t ≡ ask_or_call c next → (next ≡ None → (d : ℕ) → f ≤ d → d < f + (64 - f) → is_asked t.kept d ≡ false)
           → ((d : ℕ) → next ≡ Some d → (e : ℕ) → f ≤ e → e < d → is_asked t.kept e ≡ false)
-          → ((d : ℕ) → next ≡ Some d → (f ≤ d) × (d < f + (64 - f))) → IsNext g (machine_ordered t o) o gs
+          → ((d : ℕ) → next ≡ Some d → (f ≤ d) × (d < f + (64 - f))) → GoesTo g t o gs
       go None next none before within =
           first_by g t o (calling_first c) gs calm is next way
           (record {
@@ -230,7 +208,7 @@ asks_or_calls g t o c f gs calm is same way unopened counted few clear census on
           })
 
 pub asks_on : (g : ℕ) (t : Machine) (o : Order) (gs : List Gear) → Calm g t gs → o ≡ beginning (next_course t) → next_course t ≡ goes_on_to t
-    → KeepsAsked g t.kept t.heard t.course t.silent gs → OneShort gs → IsTrue t.kept.enrolled gs → IsNext g (machine_ordered t o) o gs
+    → KeepsAsked g t.kept t.heard t.course t.silent gs → OneShort gs → IsTrue t.kept.enrolled gs → GoesTo g t o gs
 asks_on g t o gs calm is next v one holds =
     asks_or_calls g t o t.course t.course.from gs calm is
     (next ∙ ap (λ b. going_on t.kept b t.course) v.unopened ∙ ap (λ y. going_on_early t.kept y t.course) calm.way) calm.way v.unopened v.counted v.small
@@ -239,19 +217,13 @@ asks_on g t o gs calm is next v one holds =
 -- the block is full: short addresses are asked again, or the close comes
 pub fills : (g : ℕ) (t : Machine) (o : Order) (c : Course) (gs : List Gear) → Calm g t gs → o ≡ beginning (next_course t) → next_course t ≡ full t c
     → c.way ≡ Surveying → IsCounted g c.tally t.silent 0 gs → AreSeen t.kept t.heard gs → AreTaken t.kept t.heard → OneShort gs
-    → IsTrue t.kept.enrolled gs → IsNext g (machine_ordered t o) o gs
+    → IsTrue t.kept.enrolled gs → GoesTo g t o gs
 fills g t o c gs calm is next way counted known filled one holds = go (asks_again t) refl where
-  go : (b : Bool) → asks_again t ≡ b → IsNext g (machine_ordered t o) o gs
+  go : (b : Bool) → asks_again t ≡ b → GoesTo g t o gs
   go true again =
       asks_or_calls g t o (record c { from = 0; opened = false; ascent = ascent_at_first; tally = asked_again c.tally }) 0 gs calm is
       (next ∙ ap (λ b. if b then asking_again t.kept c else closing_by c BlockFull) again) way refl
-      (record {
-        calls = counted.calls;
-        draws = counted.draws;
-        passed = counted.passed;
-        quiet = counted.quiet;
-        drawn = counted.drawn;
-      }) (omega arith) known.1 (inr (known.0, filled)) one holds
+      counted (omega arith) known.1 (inr (known.0, filled)) one holds
   go false last =
       first_by g t o (closing_by c BlockFull) gs calm is (next ∙ ap (λ b. if b then asking_again t.kept c else closing_by c BlockFull) last) way
       (record { stage_is = tt; well = filled }) known
@@ -272,7 +244,7 @@ bare_opened g gs all k there on other enabled = woken_short (gear_of gs k) (all 
 pub hunts_first : (g : ℕ) (t : Machine) (o : Order) (cs : Course) (gs : List Gear) → Calm g t gs → o ≡ beginning (next_course t)
     → next_course t ≡ hunting_first cs → cs.way ≡ Surveying → cs.opened ≡ true → IsCounted g cs.tally t.silent 0 gs
     → cs.tally.passed.count ≤ cs.tally.calls + cs.tally.draws → AreLow gs → Each gs (λ k y. OpenedBy y) → AreSeen t.kept t.heard gs
-    → IsNext g (machine_ordered t o) o gs
+    → GoesTo g t o gs
 hunts_first g t o cs gs calm is next way opened counted few low all known =
     first_by g t o (hunting_first cs) gs calm is next way
     (record {
@@ -296,7 +268,7 @@ hunts_first g t o cs gs calm is next way opened counted few low all known =
 pub hunts_above : (g : ℕ) (t : Machine) (o : Order) (cs : Course) (v : ℕ) (gs : List Gear) → Calm g t gs → o ≡ beginning (next_course t)
     → next_course t ≡ hunting_above cs → cs.way ≡ Surveying → cs.opened ≡ true → IsCounted g cs.tally t.silent 0 gs
     → (is_wanted (gear_of gs g) ≡ true → cs.tally.passed.count ≤ cs.tally.calls + cs.tally.draws) → AreLow gs → AreSought g 1 gs → AreBare g gs
-    → v < MASK24 → IsPast cs.ascent v gs → AreSeen t.kept t.heard gs → IsNext g (machine_ordered t o) o gs
+    → v < MASK24 → IsPast cs.ascent v gs → AreSeen t.kept t.heard gs → GoesTo g t o gs
 hunts_above g t o cs v gs calm is next way opened counted few low sought_are bare drawn past known =
     first_by g t o (hunting (record cs { ascent = above cs.ascent v })) gs calm is
     (next ∙ ap (λ q. hunting (record cs { ascent = gone_on_from q cs.ascent })) past.reached) way
@@ -319,8 +291,8 @@ hunts_above g t o cs v gs calm is next way opened counted few low sought_are bar
 
 -- if a visit succeeded
 pub hunts_on : (g : ℕ) (t : Machine) (o : Order) (gs : List Gear) → Calm g t gs → o ≡ beginning (next_course t) → next_course t ≡ goes_on_to t
-    → KeepsPast g t.kept t.heard t.course t.silent gs → IsNext g (machine_ordered t o) o gs
-hunts_on g t o gs calm is next v =
+    → KeepsPast g t.kept t.heard t.course t.silent gs → GoesTo g t o gs
+hunts_on g t o gs calm is next (v, known) =
     hunts_above g t o (record t.course { tally = served t.course.tally }) v.visited gs calm is
     (next ∙ ap (λ b. going_on t.kept b t.course) v.opened_is ∙ ap (λ y. searching_on y t.course) calm.way) calm.way v.opened_is
     (record {
@@ -330,7 +302,7 @@ hunts_on g t o gs calm is next v =
       quiet = subst (λ n. n + one_if (not (is_failed None (gear_of gs g).random)) ≤ 2 * 0 + 1 + 20 * t.course.tally.draws + 0) (sym v.quiet)
           (least t.course.tally.draws);
       drawn = v.counted.drawn;
-    }) (λ wanted_is. omega arith) v.low v.sought_are v.bare v.drawn v.past v.known
+    }) (λ wanted_is. omega arith) v.low v.sought_are v.bare v.drawn v.past known
   where
     least : (n : ℕ) → 0 + 1 ≤ 2 * 0 + 1 + 20 * n + 0
     least n = omega arith

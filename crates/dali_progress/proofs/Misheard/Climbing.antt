@@ -1,9 +1,5 @@
-use Rattle.std.proofs.Common.{◌≡◌, ℕ, ◌+◌, ◌<◌, ◌≤◌, Bool, true, false, refl, subst, arith, nat_lt, min, max, if◌then◌else◌}
-use Rattle.std.proofs.lemmas.Bool.Decides.{nat_tests}
-use Rattle.dali_frame.specs.Random.{MASK24}
-use Rattle.dali_search.specs.Ascending.{Ascent, IsAscent, Knows, is_bounded, leads_to, ascended, ascent_at_first, above, begun_anew}
-use Rattle.dali_search.specs.declared.step.Step.TheVariants.{Again, Found, Nobody}
-use Rattle.dali_search.proofs.Ascents.{yes_is, no_is}
+use Rattle.dali_progress.proofs.Below.{◌≡◌, ℕ, ◌+◌, ◌<◌, ◌≤◌, Bool, true, false, refl, subst, arith, nat_lt, min, max, if◌then◌else◌, nat_tests, MASK24, Ascent}
+use Rattle.dali_progress.proofs.Below.{IsAscent, Knows, is_bounded, leads_to, ascended, ascent_at_first, above, begun_anew, Again, Found, Nobody, yes_is, no_is}
 
 -- A SEARCH THAT GOES UP, whichever gear are there: also some that never drew a number.
 

@@ -1,18 +1,11 @@
-use Rattle.std.proofs.Common.{◌≡◌, ℕ, ◌<◌, ◌⊎◌, inl, inr, Bool, true, false, List, refl, sym, ap, subst, ◌∙◌, arith, length, Some, None, ◌&&◌, ◌==◌, is_some}
-use Rattle.std.proofs.Common.{if◌then◌else◌}
-use Rattle.dali_frame.specs.{Random.value_of, Random.MASK24, declared.frames.Answer.TheVariants.Byte, declared.numbers.SearchAddress.SearchAddress}
-use Rattle.dali_special.specs.{Command.program_data, declared.command.Command.Command}
-use Rattle.dali_special.specs.declared.command.Command.TheVariants.{QueryShort, Randomise, Withdraw, Program}
-use Rattle.dali_gear.specs.Gear.{Gear, draws_a_number, is_second, is_active, is_found, gear_taken, answer_to}
-use Rattle.dali_gear.specs.{Row.row_after, Row.answers_of, Row.heard_of, declared.row.Reach.TheVariants.Everyone}
-use Rattle.dali_gear.specs.declared.state.InitialisationState.{InitialisationState, TheVariants.Disabled, TheVariants.Enabled, TheVariants.Withdrawn}
-use Rattle.dali_script.specs.Records.{Assignment, Has}
+use Rattle.dali_progress.proofs.Below.{◌≡◌, ℕ, ◌<◌, ◌⊎◌, inl, inr, Bool, true, false, List, refl, sym, ap, subst, ◌∙◌, arith, length, Some, None, ◌&&◌, ◌==◌}
+use Rattle.dali_progress.proofs.Below.{is_some, if◌then◌else◌, value_of, MASK24, Byte, SearchAddress, program_data, Command, QueryShort, Randomise, Withdraw}
+use Rattle.dali_progress.proofs.Below.{Program, Gear, draws_a_number, is_second, is_active, is_found, gear_taken, answer_to, row_after, answers_of, heard_of}
+use Rattle.dali_progress.proofs.Below.{Everyone, InitialisationState, Disabled, Enabled, Withdrawn, Assignment, Has, HasShort, gear_of, is_wanted, Seek}
+use Rattle.dali_progress.proofs.Below.{found_random, row_length, random_found, one_answers, queried_short, queried_none, SameGear, SameCore, AreOpening}
+use Rattle.dali_progress.proofs.Below.{after_program, Programs, programs_at, same_number, number_same, after_at, wanted_powered, wanted_active, after_withdraw}
+use Rattle.dali_progress.proofs.Below.{Withdraws, withdraws_at}
 use Rattle.dali_script.specs.declared.stage.Stage.TheVariants as stage
-use Rattle.dali_events.specs.{Searching.HasShort, Wanted.gear_of, Wanted.is_wanted, Wanted.Seek}
-use Rattle.dali_events.proofs.{Invariant.Known.found_random, Invariant.Takes.row_length, Search.Heard.random_found, Search.Heard.one_answers}
-use Rattle.dali_events.proofs.Search.{Heard.queried_short, Heard.queried_none, Leaving.SameGear, Leaving.SameCore, Opened.AreOpening, Programming.after_program}
-use Rattle.dali_events.proofs.Search.{Programming.Programs, Programming.programs_at, Wanted.same_number, Wanted.number_same, Wanted.after_at}
-use Rattle.dali_events.proofs.Search.{Wanted.wanted_powered, Wanted.wanted_active, Withdrawing.after_withdraw, Withdrawing.Withdraws, Withdrawing.withdraws_at}
 use Rattle.dali_progress.proofs.{Stands.HaveShort, Survey.Drawn.DrewApart}
 
 -- WHAT IS TRUE OF GEAR IF ONE IS MISHEARD: of each gear with power, by its number in the row.

@@ -1,55 +1,35 @@
-use Rattle.std.proofs.Common.{◌≡◌, ℕ, ◌+◌, ◌<◌, ◌≤◌, ◌⊎◌, inl, inr, true, false, List, [], ◌∷◌, ◌++◌, refl, sym, ap, subst, ◌∙◌, arith, length, Option, Some}
-use Rattle.std.proofs.Common.{None, ◌==◌}
-use Rattle.std.proofs.lemmas.Nat.Bits.{bit_at-zero}
-use Rattle.dali_frame.specs.declared.frames.{Answer.Answer, Forward.Forward}
-use Rattle.dali_special.specs.{Command.command_of, declared.command.Command.Command}
-use Rattle.dali_gear.specs.{Gear.Gear, Row.row_after, Row.drawn_of, declared.row.Reach.TheVariants.Everyone}
-use Rattle.dali_script.specs.{Records.Kept, Scripts.IsLawful, Stages.IsTrace, Stages.stage_of, Stages.next_stage}
-use Rattle.dali_script.specs.declared.orders.{End.End, End.TheVariants.AllFound, End.TheVariants.BlockFull, End.TheVariants.GaveUp, Input.Input, Order.Order}
-use Rattle.dali_script.specs.declared.orders.Order.TheVariants.{Put, Commit, Done, Halt}
-use Rattle.dali_script.specs.declared.records.Record.{Record, TheVariants.Reserve, TheVariants.Enrol, TheVariants.Release}
-use Rattle.dali_script.specs.declared.stage.Stage.{Stage}
-use Rattle.dali_script.proofs.{Found.trace_more, Lists.has_before, Lists.without_has, Members.has_right, Transactions.stage_more, Transactions.stage_none}
+use Rattle.dali_progress.proofs.Below.{◌≡◌, ℕ, ◌+◌, ◌<◌, ◌≤◌, ◌⊎◌, inl, inr, true, false, List, [], ◌∷◌, ◌++◌, refl, sym, ap, subst, ◌∙◌, arith, length, Option}
+use Rattle.dali_progress.proofs.Below.{Some, None, ◌==◌, bit_at-zero, Answer, Forward, command_of, Command, Gear, row_after, drawn_of, Everyone, Kept, IsLawful}
+use Rattle.dali_progress.proofs.Below.{IsTrace, stage_of, next_stage, End, AllFound, BlockFull, GaveUp, Input, Order, Put, Commit, Done, Halt, Record, Reserve}
+use Rattle.dali_progress.proofs.Below.{Enrol, Release, Stage, trace_more, has_before, without_has, has_right, stage_more, stage_none, visiting, Course, Machine}
+use Rattle.dali_progress.proofs.Below.{machine_heard, machine_surveying, machine_told, silent_after, heard_after, begins_at, at_rest, machine_ordered}
+use Rattle.dali_progress.proofs.Below.{machine_after, AfterEnrolled, has_short, IsWhole, Sends, Purpose, Shorts, IsGivenBy, Allowed, happens, entry}
+use Rattle.dali_progress.proofs.Below.{trace_running, KeepsPromiseNow, IsRun, LeavesUsed, World, controller_at, Event, row_length, IsFound, LeavesWhole}
+use Rattle.dali_progress.proofs.Below.{SiteState, world, site_logged, machine_at, IsHeardBut, IsOfRoundBut, RoundsBut, EndsWellBut, IsTrueEndBut, HasEnded}
+use Rattle.dali_progress.proofs.Below.{GoesOn, IsAlone, Succeeds, IsOfRound, Rounds, site_after}
 use Rattle.dali_script.specs.declared.orders.Input.TheVariants as input
 use Rattle.dali_script.specs.declared.stage.Stage.TheVariants as stage
-use Rattle.dali_controller.specs.{Course.visiting, Course.Course, Machine.Machine, Machine.machine_heard, Machine.machine_surveying, Machine.machine_told}
-use Rattle.dali_controller.specs.{Machine.silent_after, Machine.heard_after, Next.begins_at, Next.at_rest, Orders.machine_ordered, Orders.machine_after}
-use Rattle.dali_controller.specs.{Orders.AfterEnrolled, Shorts.has_short, Whole.IsWhole, Whole.Sends, declared.purpose.Purpose.Purpose}
-use Rattle.dali_controller.{specs.declared.shorts.Shorts.Shorts, proofs.Given.IsGivenBy}
 use Rattle.dali_controller.proofs.Given as given
-use Rattle.dali_events.specs.{Allowed.Allowed, Happens.happens, Happens.entry, Happens.trace_running, Promise.KeepsPromiseNow, Runs.IsRun, Runs.LeavesUsed}
-use Rattle.dali_events.{specs.World.World, specs.World.controller_at, specs.declared.event.Event.Event, proofs.Invariant.Takes.row_length}
 use Rattle.dali_events.specs.declared.event.Event.TheVariants as event
-use Rattle.dali_standing.specs.Seats.{IsFound, LeavesWhole}
-use Rattle.dali_world.specs.Site.{SiteState, world, site_logged, machine_at}
-use Rattle.dali_progress.specs.Misheard.{IsHeardBut, IsOfRoundBut, RoundsBut, EndsWellBut, IsTrueEndBut}
-use Rattle.dali_progress.specs.Rounds.{HasEnded, GoesOn, IsAlone, Succeeds, IsOfRound, Rounds, site_after}
-use Rattle.dali_progress.proofs.Along.{RunsBy, runs_first, acted_to, frame_to, sent_to, ended_at, goes_by, HoldsBy, holds_next, acts_from}
-use Rattle.dali_progress.proofs.Both.{never_eight, with_kept, put_no_enrolment, not_free, no_tries, IsKnown, lawful_now, no_enrolment_now, no_enrolment_yet}
-use Rattle.dali_progress.proofs.{Both.reserved_begins, Census.Asked.sending_of, Frames.Seeks, Logged.same_some, Logged.world_logged, Lone.IsLone}
-use Rattle.dali_progress.proofs.{Lone.lone_sent, Misheard.Begins.Calm, Misheard.Begins.IsOwn, Misheard.Begins.Keeps}
-use Rattle.dali_progress.proofs.Misheard.{Begins.IsNext, Begins.first_by, Begins.asks_on, Begins.hunts_on, Known.SentTo, Known.at_sent, Known.known_sent}
-use Rattle.dali_progress.proofs.Misheard.{Sent.Taken, Stands.EndsBy, Stands.AreTabledBelow, Stands.KnownAt, Stands.At, Stands.MisheardStands, Visits.turned}
-use Rattle.dali_progress.proofs.Survey.Goes.{found_sent, acted_so, promise_now, surveyed_now, IsActedSo}
-use Rattle.dali_progress.proofs.Survey.{Kept.rest_next, Queried.OneShort, Queried.IsTrue, Queried.IsAtHand, Turns.IsUncontradicted}
 use Rattle.dali_progress.proofs.Misheard.Gear as gear
+use Rattle.dali_progress.proofs.{Along.{RunsBy, runs_first, acted_to, frame_to, sent_to, ended_at, goes_by, HoldsBy, holds_next, acts_from}, Both.never_eight}
+use Rattle.dali_progress.proofs.Both.{with_kept, put_no_enrolment, not_free, no_tries, IsKnown, lawful_now, no_enrolment_now, no_enrolment_yet, reserved_begins}
+use Rattle.dali_progress.proofs.{Census.Asked.sending_of, Frames.Seeks, Logged.{same_some, world_logged}, Lone.{IsLone, lone_sent}, Misheard.Stands.Calm}
+use Rattle.dali_progress.proofs.{Misheard.Stands.{EndsBy, AreTabledBelow, KnownAt, At, MisheardStands}, Misheard.Begins.{IsOwn, Keeps, IsNext, first_by}}
+use Rattle.dali_progress.proofs.{Misheard.Begins.{asks_on, hunts_on, GoesTo}, Misheard.Known.{SentTo, at_sent, known_sent}, Misheard.Sent.Taken}
+use Rattle.dali_progress.proofs.{Misheard.Visits.turned, Survey.Goes.{found_sent, acted_so, promise_now, surveyed_now, IsActedSo}, Survey.Visits.rest_next}
+use Rattle.dali_progress.proofs.{Survey.Queried.{OneShort, IsTrue, IsAtHand}, Survey.Turns.IsUncontradicted}
 
 -- A SURVEY GOES ON, event by event, if gear g is misheard.
 
 -- ---------------------------------------------------------------- a record was kept
 
-calm_kept : (g : ℕ) (m : Machine) (x : Record) (gs : List Gear) → Calm g m gs → Calm g (with_kept m x) gs
-calm_kept g m x gs calm = record { there = calm.there; tries = calm.tries; way = calm.way }
-
-calm_more : (g : ℕ) (m : Machine) (x y : Record) (gs : List Gear) → Calm g m gs → Calm g (machine_ordered (with_kept m x) (Commit y)) gs
-calm_more g m x y gs calm = record { there = calm.there; tries = calm.tries; way = calm.way }
-
 committed : (g : ℕ) (m : Machine) (x : Record) (o : Order) (gs : List Gear) → Calm g m gs → Keeps g m.kept m.heard m.course m.silent x gs → m.trace ≡ []
     → m.last ≡ Some (Commit x) → IsGivenBy (with_kept m x) o → OneShort gs → IsTrue (with_kept m x).kept.enrolled gs
-    → IsNext g (machine_ordered (with_kept m x) o) o gs
+    → GoesTo g (with_kept m x) o gs
 committed g m (Reserve a r) o gs calm v free last by one holds =
-    first_by g (with_kept m (Reserve a r)) o (visiting m.course r) gs (calm_kept g m (Reserve a r) gs calm)
-    (reserved_begins m a r o calm.tries free last by) (rest_next m (Reserve a r) free last) calm.way
+    first_by g (with_kept m (Reserve a r)) o (visiting m.course r) gs calm
+    (reserved_begins m a r o calm.untried free last by) (rest_next m (Reserve a r) free last) calm.way
     (record {
       opened_is = v.opened_is;
       counted = v.counted;
@@ -64,45 +44,36 @@ committed g m (Reserve a r) o gs calm v free last by one holds =
       v.clear,
     )
 committed g m (Enrol b r) o gs calm (inr past) free last by one holds =
-    hunts_on g (with_kept m (Enrol b r)) o gs (calm_kept g m (Enrol b r) gs calm)
-    (given.enrolled (with_kept m (Enrol b r)) o b r by last free past.1) (rest_next m (Enrol b r) free last)
-    (record {
-      opened_is = past.0.opened_is;
-      counted = past.0.counted;
-      low = past.0.low;
-      sought_are = past.0.sought_are;
-      bare = past.0.bare;
-      quiet = past.0.quiet;
-      visited = past.0.visited;
-      drawn = past.0.drawn;
-      past = past.0.past;
-      known = (
+    hunts_on g (with_kept m (Enrol b r)) o gs calm
+    (given.enrolled (with_kept m (Enrol b r)) o b r by last free past.1) (rest_next m (Enrol b r) free last) (
+      past.0.0,
+      (
         gear.known_more m.kept.reserved m.kept.enrolled m.kept.reserved (m.kept.enrolled ++ (b, r) ∷ []) gs (λ x has. has)
-            (λ x has. has_before m.kept.enrolled (b, r) x has) past.0.known.0,
-        past.0.known.1,
-      );
-    })
+            (λ x has. has_before m.kept.enrolled (b, r) x has) past.0.1.0,
+        past.0.1.1,
+      ),
+    )
 committed g m (Enrol b r) o gs calm (inl asked) free last by one holds = go o by (by.followed.enrolled b r last) where
-  goes : (q : Order) → IsGivenBy (with_kept m (Enrol b r)) q → IsOwn m.kept b r → IsNext g (machine_ordered (with_kept m (Enrol b r)) q) q gs
+  goes : (q : Order) → IsGivenBy (with_kept m (Enrol b r)) q → IsOwn m.kept b r → GoesTo g (with_kept m (Enrol b r)) q gs
   goes q by own =
-      asks_on g (with_kept m (Enrol b r)) q gs (calm_kept g m (Enrol b r) gs calm) (given.enrolled (with_kept m (Enrol b r)) q b r by last free own)
+      asks_on g (with_kept m (Enrol b r)) q gs calm (given.enrolled (with_kept m (Enrol b r)) q b r by last free own)
       (rest_next m (Enrol b r) free last) asked.0 one holds
 
   go : (q : Order) → IsGivenBy (with_kept m (Enrol b r)) q → AfterEnrolled (with_kept m (Enrol b r)) b r q
-      → IsNext g (machine_ordered (with_kept m (Enrol b r)) q) q gs
+      → GoesTo g (with_kept m (Enrol b r)) q gs
   go (Put p f) by own = goes (Put p f) by own
   go (Commit x) by (a, has, is) = released asked.1 where
     released : ((m.course.tally.passed.count ≡ 0) × AreTabledBelow m.course.from (m.kept.enrolled ++ (b, r) ∷ []) gs) ⊎ IsOwn m.kept b r
-        → IsNext g (machine_ordered (with_kept m (Enrol b r)) (Commit x)) (Commit x) gs
+        → GoesTo g (with_kept m (Enrol b r)) (Commit x) gs
     released (inl first) =
-        subst (λ y. IsNext g (machine_ordered (with_kept m (Enrol b r)) (Commit y)) (Commit y) gs) (sym is)
-        (calm_more g m (Enrol b r) (Release a r) gs calm, (asked.0, first))
+        subst (λ y. GoesTo g (with_kept m (Enrol b r)) (Commit y) gs) (sym is)
+        (calm, (asked.0, first))
     released (inr own) = goes (Commit x) by own
   go (Done e) by never = absurd never
   go (Halt why) by never = absurd never
 committed g m (Release a r) o gs calm v free last by one holds =
-    asks_on g (with_kept m (Release a r)) o gs (calm_kept g m (Release a r) gs calm)
-    (given.begins_free (with_kept m (Release a r)) o by free (no_enrolment_now a r m.last last) (never_eight m.tries calm.tries))
+    asks_on g (with_kept m (Release a r)) o gs calm
+    (given.begins_free (with_kept m (Release a r)) o by free (no_enrolment_now a r m.last last) (never_eight m.tries calm.untried))
     (rest_next m (Release a r) free last)
     (record {
       unopened = v.0.unopened;
@@ -139,9 +110,9 @@ Holds g m last told gs = HoldsBy (IsUnbegun g) (λ n p f h gs. Hears g n f h gs)
 -- ---------------------------------------------------------------- the controller acts
 
 first_acts : (g : ℕ) (m : Machine) (o : Order) (gs : List Gear) → m.last ≡ None → IsGivenBy (machine_surveying m) o → OneShort gs
-    → IsTrue m.kept.enrolled gs → IsUnbegun g m gs → IsNext g (machine_ordered (machine_surveying m) o) o gs
+    → IsTrue m.kept.enrolled gs → IsUnbegun g m gs → GoesTo g (machine_surveying m) o gs
 first_acts g m o gs last by one holds v =
-    asks_on g (machine_surveying m) o gs (record { there = v.there; tries = v.tries; way = refl })
+    asks_on g (machine_surveying m) o gs (record { there = v.there; untried = v.tries; way = refl })
     (given.begins_free (machine_surveying m) o by v.free (no_enrolment_yet m.last last) (never_eight m.tries v.tries))
     (ap (begins_at (machine_surveying m)) at ∙ ap (at_rest (machine_surveying m)) last)
     (record {
@@ -173,9 +144,11 @@ stands_heard : (g : ℕ) (m : Machine) (f : Forward) (h : Answer) (gs : List Gea
     → KnownTo g m.course.purpose (stage_of m.trace) m.kept m.heard m.course gs numbers (command_of f) h
     → MisheardStands true g (machine_heard m (Some f) h) (row_after Everyone (command_of f) 0 gs numbers)
 stands_heard g m f h gs numbers st lawful sent known = record {
-  there = subst (λ n. g < n) (sym (row_length Everyone (command_of f) 0 gs numbers)) st.there;
-  tries = no_tries _ m.tries st.tries;
-  way = st.way;
+  calm = record {
+    there = subst (λ n. g < n) (sym (row_length Everyone (command_of f) 0 gs numbers)) st.calm.there;
+    untried = no_tries _ m.tries st.calm.untried;
+    way = st.calm.way;
+  };
   trace = subst (λ s. IsTrace s (m.trace ++ entry f h ∷ [])) (sym more) (trace_more (stage_of m.trace) m.trace f h lawful st.trace);
   at = subst (λ s. At true g m.course.purpose s m.kept
       (heard_after m.course.purpose s h m.heard) m.course (silent_after s m.course.opened m.silent)
@@ -200,7 +173,7 @@ misheard_acts g s c i o r good here whole run by = (
   holds_next (IsUnbegun g) (λ n p f h gs. Hears g n f h gs) (Next g) (machine_after m i o) o w.gear (
     acts_from (IsUnbegun g) (λ n p f h gs. Hears g n f h gs) (Next g) true
         (λ j n. IsTrue n.kept.enrolled w.gear × ((b : Answer) → j ≡ input.Heard b → IsUncontradicted n) × IsWhole (machine_ordered n o))
-        (λ l t n. IsNext g (machine_ordered n o) o w.gear) w s.queue c m i o
+        (λ l t n. GoesTo g n o w.gear) w s.queue c m i o
         (λ last given known v. first_acts g m o w.gear last given so.hand.one so.hand.holds v)
         (λ p f h is given known hears. turned g (machine_heard m (Some f) h) o w.gear given hears.stands so.hand (known.1 h refl) known.2
         (put_no_enrolment p f m.last is) hears.running)
@@ -259,7 +232,7 @@ misheard_sends g s c p f h r last told here heard known = (
 
   taken : Taken g (command_of f) w.gear w.left h
   taken = record {
-    there = holds.0.there;
+    there = holds.0.calm.there;
     heard = heard;
     enough = here.draws;
     below = λ x has. known.after.below x.0 x.1 (has_right w.drawn (drawn_of Everyone (command_of f) 0 w.gear w.left) x has);

@@ -1,27 +1,18 @@
-use Rattle.std.proofs.Common.{◌≡◌, ℕ, ◌<◌, inl, inr, true, false, List, refl, sym, subst, ◌∙◌, length, ◌⊎◌, Bool, Some, None, ◌==◌, if◌then◌else◌}
-use Rattle.dali_frame.specs.{Random.MASK24, Random.value_of, declared.frames.Answer.Answer, declared.frames.Answer.TheVariants.Silence}
-use Rattle.dali_frame.specs.declared.{frames.Answer.TheVariants.Byte, frames.Answer.TheVariants.Damaged, numbers.SearchAddress.SearchAddress}
-use Rattle.dali_special.specs.declared.command.Command.{Command, TheVariants.Terminate, TheVariants.Program}
-use Rattle.dali_gear.specs.{Gear.Gear, Row.row_after, declared.row.Reach.TheVariants.Everyone}
-use Rattle.dali_script.specs.{Records.Kept, Records.Assignment, Records.Has, Records.HasAddress, Records.InBlock, Stages.next_stage, declared.orders.End.End}
-use Rattle.dali_script.specs.declared.{orders.End.TheVariants.AllFound, orders.End.TheVariants.BlockFull, orders.End.TheVariants.GaveUp, stage.Stage.Stage}
+use Rattle.dali_progress.proofs.Below.{◌≡◌, ℕ, ◌<◌, inl, inr, true, false, List, refl, sym, subst, ◌∙◌, length, ◌⊎◌, Bool, Some, None, ◌==◌, if◌then◌else◌}
+use Rattle.dali_progress.proofs.Below.{MASK24, value_of, Answer, Silence, Byte, Damaged, SearchAddress, Command, Terminate, Program, Gear, row_after, Everyone}
+use Rattle.dali_progress.proofs.Below.{Kept, Assignment, Has, HasAddress, InBlock, next_stage, End, AllFound, BlockFull, GaveUp, Stage, Course, silent_after}
+use Rattle.dali_progress.proofs.Below.{heard_after, marked_at, has_short, with_short, without_short, Sends, Purpose, Opening, Probing, Visiting, Resolving}
+use Rattle.dali_progress.proofs.Below.{Closing, Hunting, Asking, Calling, Drawing, PassingOver, Shorts, Tally, gear_of, LeavesShort, SameCore, after_at}
+use Rattle.dali_progress.proofs.Below.{same_number, number_same, AreServedBut}
 use Rattle.dali_script.specs.declared.stage.Stage.TheVariants as stage
-use Rattle.dali_controller.specs.{Course.Course, Machine.silent_after, Machine.heard_after, Machine.marked_at, Shorts.has_short, Shorts.with_short}
-use Rattle.dali_controller.specs.{Shorts.without_short, Whole.Sends, declared.purpose.Purpose.Purpose}
-use Rattle.dali_controller.specs.declared.purpose.Purpose.TheVariants.{Opening, Probing, Visiting, Resolving, Closing, Hunting, Asking, Calling, Drawing}
-use Rattle.dali_controller.specs.declared.{purpose.Purpose.TheVariants.PassingOver, shorts.Shorts.Shorts, tally.Tally.Tally}
-use Rattle.dali_events.specs.Wanted.{gear_of}
-use Rattle.dali_events.proofs.Search.{Leaving.LeavesShort, Leaving.SameCore, Wanted.after_at, Wanted.same_number, Wanted.number_same}
-use Rattle.dali_progress.specs.Misheard.{AreServedBut}
-use Rattle.dali_progress.proofs.{Accounted.with_has, Both.has_address, Both.IsDry, Both.is_unnamed, Both.names_sent, Frames.Seeks, Frames.short_left}
-use Rattle.dali_progress.proofs.Misheard.Gear.{HasDrawn, HaveDrawn, each_after, IsKnown, AreKnown, each_core}
-use Rattle.dali_progress.proofs.Misheard.{Sent.Taken, Sent.counted_on, Sent.hunting_sent, Sent.but_taken, Sent.truth, Stands.Asks, Stands.Calls, Stands.Draws}
-use Rattle.dali_progress.proofs.Misheard.Stands.{EndsBy, Closes, At, IsCounted, IsCountedFor, Census, KnownAt, IsSpent, IsTabled, AreTabledBelow, IsCensus}
-use Rattle.dali_progress.proofs.{Misheard.Visited.visiting_sent, Misheard.Visited.passing_sent, Stands.sends_of, Survey.Drawn.AreNumbered}
-use Rattle.dali_progress.proofs.Survey.{Queried.IsAtHand, Queried.Holds, Stands.AreTaken, Woken.names_left, Woken.all_left, Woken.leaves_short}
-use Rattle.dali_progress.proofs.Surveying.{RollSent, DrawSent, IsDraws, roll_sent, draw_sent, open_sent, quiet_roll, quiet_draw, AskedTo, asked_sent}
-use Rattle.dali_progress.proofs.{Surveying.quiet_asked, Surveying.DrawsBy, Surveying.AskedAt, Surveying.with_other, Surveying.without_other, Tables.LeavesNames}
 use Rattle.dali_progress.proofs.Misheard.Gear as gear
+use Rattle.dali_progress.proofs.{Accounted.with_has, Both.{has_address, IsDry, is_unnamed, names_sent}, Frames.{Seeks, short_left}, Misheard.Gear.HasDrawn}
+use Rattle.dali_progress.proofs.{Misheard.Gear.{HaveDrawn, each_after, IsKnown, AreKnown, each_core}, Misheard.Sent.{Taken, counted_on, hunting_sent}}
+use Rattle.dali_progress.proofs.{Misheard.Sent.{but_taken, truth}, Misheard.Stands.{Asks, Calls, Draws, EndsBy, Closes, At, IsCounted, IsCountedFor, Census}}
+use Rattle.dali_progress.proofs.{Misheard.Stands.{KnownAt, IsSpent, IsTabled, AreTabledBelow, IsCensus}, Misheard.Visited.{visiting_sent, passing_sent}}
+use Rattle.dali_progress.proofs.{Stands.sends_of, Survey.Drawn.AreNumbered, Survey.Queried.{IsAtHand, Holds}, Survey.Stands.AreTaken, Survey.Woken.names_left}
+use Rattle.dali_progress.proofs.{Survey.Woken.{all_left, leaves_short}, Surveying.{RollSent, DrawSent, IsDraws, roll_sent, draw_sent, open_sent, quiet_roll}}
+use Rattle.dali_progress.proofs.{Surveying.{quiet_draw, AskedTo, asked_sent, quiet_asked, DrawsBy, AskedAt, with_other, without_other}, Tables.LeavesNames}
 
 -- A FRAME OF A ROLL CALL IS SENT, or one after which gear draw, or one of the census or the close; and of whatever transaction.
 

@@ -1,23 +1,15 @@
-use Rattle.std.proofs.Common.{◌≡◌, ℕ, ◌+◌, ◌-◌, ◌*◌, ◌<◌, ◌≤◌, inl, inr, Bool, true, false, List, refl, sym, subst, ◌∙◌, arith, length, Option, Some, None}
-use Rattle.std.proofs.Common.{◌==◌, ◌%◌, not, if◌then◌else◌}
-use Rattle.dali_frame.specs.{Random.value_of, Random.MASK24, declared.frames.Answer.Answer, declared.numbers.SearchAddress.SearchAddress}
-use Rattle.dali_special.specs.declared.command.Command.{Command}
-use Rattle.dali_special.specs.declared.command.Command.TheVariants.{Compare, SearchHigh, SearchMiddle, SearchLow, QueryShort}
-use Rattle.dali_gear.specs.{Gear.Gear, Row.row_after, Row.draws_needed, Row.drawn_of, Row.answers_of, Row.heard_of, declared.row.Reach.TheVariants.Everyone}
-use Rattle.dali_script.specs.{Records.Kept, Records.Has, Stages.next_stage, declared.stage.Stage.Stage}
+use Rattle.dali_progress.proofs.Below.{◌≡◌, ℕ, ◌+◌, ◌-◌, ◌*◌, ◌<◌, ◌≤◌, inl, inr, Bool, true, false, List, refl, sym, subst, ◌∙◌, arith, length, Option, Some}
+use Rattle.dali_progress.proofs.Below.{None, ◌==◌, ◌%◌, not, if◌then◌else◌, value_of, MASK24, Answer, SearchAddress, Command, Compare, SearchHigh, SearchMiddle}
+use Rattle.dali_progress.proofs.Below.{SearchLow, QueryShort, Gear, row_after, draws_needed, drawn_of, answers_of, heard_of, Everyone, Kept, Has, next_stage}
+use Rattle.dali_progress.proofs.Below.{Stage, Ascent, asked_next, one_if, Gives, Course, is_yes, sought, byte_to_send, silent_after, is_failed, Sends, Purpose}
+use Rattle.dali_progress.proofs.Below.{Hunting, PassingOver, Tally, gear_of, is_wanted, wants, SameCore, IsHeardBut}
 use Rattle.dali_script.specs.declared.stage.Stage.TheVariants as stage
-use Rattle.dali_search.specs.{Ascending.Ascent, Ascending.asked_next, Ascending.one_if, Least.Gives}
-use Rattle.dali_controller.specs.{Course.Course, Course.is_yes, Course.sought, Course.byte_to_send, Machine.silent_after, Next.is_failed, Whole.Sends}
-use Rattle.dali_controller.specs.declared.purpose.Purpose.{Purpose, TheVariants.Hunting, TheVariants.PassingOver}
-use Rattle.dali_controller.specs.declared.tally.Tally.{Tally}
-use Rattle.dali_events.{specs.Wanted.gear_of, specs.Wanted.is_wanted, specs.Wanted.wants, proofs.Search.Leaving.SameCore}
 use Rattle.dali_events.proofs.Search.Leaving as leaving
-use Rattle.dali_progress.specs.Misheard.{IsHeardBut}
-use Rattle.dali_progress.proofs.{Frames.Seeks, Frames.probe_says, Frames.gives_same, Frames.some_is, Misheard.Gear.HaveDrawn, Misheard.Gear.AreSought}
-use Rattle.dali_progress.proofs.Misheard.Stands.{IsCounted, HuntStage, Rises, IsReached, IsOfOne, HuntAt, found_at, failed_at, IsQuietAt, IsFew, Hunts}
-use Rattle.dali_progress.proofs.Survey.{Drawn.AreNumbered, Drawn.DrewApart, Rising.IsByteSent, Rising.byte_sent, Woken.AreLow, Woken.IsByteLow, Woken.low_after}
-use Rattle.dali_progress.proofs.Surveying.{IsTakenBut}
 use Rattle.dali_progress.proofs.Misheard.Gear as gear
+use Rattle.dali_progress.proofs.{Frames.{Seeks, probe_says, gives_same}, Stands.some_is, Misheard.Gear.{HaveDrawn, AreSought}, Misheard.Stands.IsCounted}
+use Rattle.dali_progress.proofs.Misheard.Stands.{HuntStage, Rises, IsReached, IsOfOne, HuntAt, found_at, failed_at, IsQuietAt, IsFew, Hunts}
+use Rattle.dali_progress.proofs.{Survey.Drawn.{AreNumbered, DrewApart}, Survey.Rising.{IsByteSent, byte_sent}, Survey.Woken.{AreLow, IsByteLow, low_after}}
+use Rattle.dali_progress.proofs.{Surveying.IsTakenBut}
 
 -- A FRAME IS SENT, and each gear with power takes it.
 

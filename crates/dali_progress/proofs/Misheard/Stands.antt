@@ -1,19 +1,11 @@
-use Rattle.std.proofs.Common.{◌≡◌, ℕ, ◌+◌, ◌*◌, ◌<◌, ◌≤◌, ◌⊎◌, Bool, true, false, List, length, Some, None, not}
-use Rattle.dali_frame.specs.{Random.value_of, Random.MASK24, declared.numbers.SearchAddress.SearchAddress}
-use Rattle.dali_gear.specs.Gear.{Gear}
-use Rattle.dali_script.specs.{Records.Assignment, Records.Kept, Records.Has, Stages.IsTrace, Stages.stage_of, declared.orders.End.End}
-use Rattle.dali_script.specs.declared.{orders.End.TheVariants.AllFound, orders.End.TheVariants.BlockFull, orders.End.TheVariants.GaveUp, stage.Stage.Stage}
+use Rattle.dali_progress.proofs.Below.{◌≡◌, ℕ, ◌+◌, ◌*◌, ◌<◌, ◌≤◌, ◌⊎◌, Bool, true, false, List, length, Option, Some, None, not, value_of, MASK24}
+use Rattle.dali_progress.proofs.Below.{SearchAddress, Gear, Assignment, Kept, Has, IsTrace, stage_of, End, AllFound, BlockFull, GaveUp, Stage, Ascent, IsAscent}
+use Rattle.dali_progress.proofs.Below.{Knows, asked_next, leads_to, one_if, Gives, Again, Found, Course, is_yes, sought, Machine, is_failed, Purpose, Opening}
+use Rattle.dali_progress.proofs.Below.{Probing, Visiting, Resolving, Closing, Hunting, Asking, Calling, Drawing, PassingOver, Shorts, Tally, Surveying, Way}
+use Rattle.dali_progress.proofs.Below.{HasShort, gear_of, is_wanted, wants, OfPowered, AreServedBut}
 use Rattle.dali_script.specs.declared.stage.Stage.TheVariants as stage
-use Rattle.dali_search.specs.Ascending.{Ascent, IsAscent, Knows, asked_next, leads_to, one_if}
-use Rattle.dali_search.specs.{Least.Gives, declared.step.Step.TheVariants.Again, declared.step.Step.TheVariants.Found}
-use Rattle.dali_controller.specs.{Course.Course, Course.is_yes, Course.sought, Machine.Machine, Next.is_failed, declared.purpose.Purpose.Purpose}
-use Rattle.dali_controller.specs.declared.purpose.Purpose.TheVariants.{Opening, Probing, Visiting, Resolving, Closing, Hunting, Asking, Calling, Drawing}
-use Rattle.dali_controller.specs.declared.{purpose.Purpose.TheVariants.PassingOver, shorts.Shorts.Shorts, tally.Tally.Tally, way.Way.TheVariants.Surveying}
-use Rattle.dali_events.specs.{Searching.HasShort, Wanted.gear_of, Wanted.is_wanted, Wanted.wants, Wanted.OfPowered}
-use Rattle.dali_progress.specs.Misheard.{AreServedBut}
-use Rattle.dali_progress.proofs.Misheard.Gear.{Each, AreSought, AreBare, AreBareBut, HaveDrawn, AreKnown, HasOne}
-use Rattle.dali_progress.proofs.{Stands.CloseStage, Stands.HaveShort, Survey.Stands.AreTaken, Survey.Woken.AreLow}
-use Rattle.dali_progress.proofs.Surveying.{IsRollCall, IsDraw, IsAskedOf, IsClear}
+use Rattle.dali_progress.proofs.{Misheard.Gear.{Each, AreSought, AreBare, AreBareBut, HaveDrawn, AreKnown, HasOne}, Stands.{CloseStage, HaveShort}}
+use Rattle.dali_progress.proofs.{Survey.Stands.AreTaken, Survey.Woken.AreLow, Surveying.{IsRollCall, IsDraw, IsAskedOf, IsClear}}
 
 -- HOW FAR A SURVEY IS, if gear g is misheard and nothing else is disturbed. No frames are counted; what its end says is true.
 
@@ -22,13 +14,16 @@ use Rattle.dali_progress.proofs.Surveying.{IsRollCall, IsDraw, IsAskedOf, IsClea
 -- Visits of gear g alone fail, at most twice in a hunt. So few hunts come between two visits that succeed: each begins with a
 -- roll call, of which three are counted, or after a draw. If gear draw for the last time, all is counted anew but the
 -- silent searches.
-pub record IsCounted (g : ℕ) (y : Tally) (silent more : ℕ) (gs : List Gear) : Type 0 where
-  pub calls : y.calls ≤ 3
-  pub draws : y.draws ≤ 3
-  pub passed : y.passed.count ≤ y.calls + y.draws + 1
-  pub quiet : silent + one_if (not (is_failed y.failed (gear_of gs g).random)) ≤ 2 * y.passed.count + 1 + 20 * y.draws + more
+pub record Counted (g k l n : ℕ) (last : Option ℕ) (silent more : ℕ) (gs : List Gear) : Type 0 where
+  pub calls : k ≤ 3
+  pub draws : l ≤ 3
+  pub passed : n ≤ k + l + 1
+  pub quiet : silent + one_if (not (is_failed last (gear_of gs g).random)) ≤ 2 * n + 1 + 20 * l + more
   -- once gear have drawn, each without short address has a number
-  pub drawn : 0 < y.draws → HaveDrawn gs
+  pub drawn : 0 < l → HaveDrawn gs
+
+abbrev pub IsCounted : ℕ → Tally → ℕ → ℕ → List Gear → Type 0
+IsCounted g y silent more gs = Counted g y.calls y.draws y.passed.count y.failed silent more gs
 
 -- from the time on at which gear draw, until they have
 pub record IsCountedFor (y : Tally) (silent : ℕ) : Type 0 where
@@ -223,10 +218,17 @@ KnownAt g (Asking a) s k heard c gs = Census a s k heard c gs
 KnownAt g Calling s k heard c gs = AreSeen k heard gs × IsSpent g c.tally k heard gs
 KnownAt g p s k heard c gs = AreSeen k heard gs
 
-pub record MisheardStands (told : Bool) (g : ℕ) (m : Machine) (gs : List Gear) : Type 0 where
+-- what every machine has
+pub record Running (g tries : ℕ) (y : Way) (gs : List Gear) : Type 0 where
   pub there : g < length gs
-  pub tries : m.tries ≡ 0
-  pub way : m.course.way ≡ Surveying
+  pub untried : tries ≡ 0
+  pub way : y ≡ Surveying
+
+abbrev pub Calm : ℕ → Machine → List Gear → Type 0
+Calm g m gs = Running g m.tries m.course.way gs
+
+pub record MisheardStands (told : Bool) (g : ℕ) (m : Machine) (gs : List Gear) : Type 0 where
+  pub calm : Calm g m gs
   pub trace : IsTrace (stage_of m.trace) m.trace
   pub at : At told g m.course.purpose (stage_of m.trace) m.kept m.heard m.course m.silent gs
   pub known : KnownAt g m.course.purpose (stage_of m.trace) m.kept m.heard m.course gs

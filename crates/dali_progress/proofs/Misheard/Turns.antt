@@ -1,32 +1,19 @@
-use Rattle.std.proofs.Common.{◌≡◌, ℕ, ◌+◌, ◌*◌, ◌<◌, ◌≤◌, ◌⊎◌, inl, inr, Bool, true, false, List, [], ◌∷◌, ◌++◌, refl, sym, ap, subst, ◌∙◌, arith, Some, None}
-use Rattle.std.proofs.Common.{◌==◌, ◌&&◌, not, nat_lt, if◌then◌else◌}
-use Rattle.std.proofs.lemmas.Bool.Decides.{nat_tests}
-use Rattle.dali_frame.specs.{Random.MASK24, declared.frames.Answer.Answer, declared.numbers.SearchAddress.SearchAddress}
-use Rattle.dali_gear.specs.Gear.{Gear}
-use Rattle.dali_script.specs.{Findings.finding_of, Records.Assignment, Records.Kept, Records.Has, Records.HasAddress, Records.IsKept, Records.IsFresh}
-use Rattle.dali_script.specs.{Records.MayAdd, Records.with_record, Stages.stage_of, Stages.finding_at, declared.finding.Finding.TheVariants.Resolved}
-use Rattle.dali_script.specs.declared.orders.{End.TheVariants.AllFound, End.TheVariants.GaveUp, Order.Order, Order.TheVariants.Put, Order.TheVariants.Commit}
-use Rattle.dali_script.specs.declared.{orders.Order.TheVariants.Done, orders.Order.TheVariants.Halt, records.Record.TheVariants.Enrol, stage.Stage.Stage}
-use Rattle.dali_script.proofs.{Lists.has_before, Lists.has_last, Members.same_member}
+use Rattle.dali_progress.proofs.Below.{◌≡◌, ℕ, ◌+◌, ◌*◌, ◌<◌, ◌≤◌, ◌⊎◌, inl, inr, Bool, true, false, List, [], ◌∷◌, ◌++◌, refl, sym, ap, subst, ◌∙◌, arith}
+use Rattle.dali_progress.proofs.Below.{Some, None, ◌==◌, ◌&&◌, not, nat_lt, if◌then◌else◌, nat_tests, MASK24, Answer, SearchAddress, Gear, finding_of}
+use Rattle.dali_progress.proofs.Below.{Assignment, Kept, Has, HasAddress, IsKept, IsFresh, MayAdd, with_record, stage_of, finding_at, Resolved, AllFound}
+use Rattle.dali_progress.proofs.Below.{GaveUp, Order, Put, Commit, Done, Halt, Enrol, Stage, has_before, has_last, same_member, one_if, Course, call_turn}
+use Rattle.dali_progress.proofs.Below.{is_yes, turn_of, calling, opening_at_last, closing as closing_by, searching_first, Machine, next_course, begins_at}
+use Rattle.dali_progress.proofs.Below.{beginning, asked_once, blocked, is_blocked, full, has_open, may_draw, is_failed, machine_ordered, AfterFinding, IsSought}
+use Rattle.dali_progress.proofs.Below.{has_short, heard_call, silent_call, IsWhole, Purpose, Asking, Calling, Shorts, Tally, IsGivenBy, IsNoEnrolment, gear_of}
 use Rattle.dali_script.specs.declared.stage.Stage.TheVariants as stage
-use Rattle.dali_search.specs.Ascending.{one_if}
-use Rattle.dali_controller.specs.Course.{Course, call_turn, is_yes, turn_of, calling, opening_at_last, closing as closing_by, searching_first}
-use Rattle.dali_controller.specs.{Machine.Machine, Next.next_course, Next.begins_at, Next.beginning, Next.asked_once, Next.blocked, Next.is_blocked, Next.full}
-use Rattle.dali_controller.specs.{Next.has_open, Next.may_draw, Next.is_failed, Orders.machine_ordered, Orders.AfterFinding, Orders.IsSought, Shorts.has_short}
-use Rattle.dali_controller.specs.{Tally.heard_call, Tally.silent_call, Whole.IsWhole, declared.purpose.Purpose.Purpose}
-use Rattle.dali_controller.specs.declared.{purpose.Purpose.TheVariants.Asking, purpose.Purpose.TheVariants.Calling, shorts.Shorts.Shorts, tally.Tally.Tally}
-use Rattle.dali_controller.proofs.Given.{IsGivenBy, IsNoEnrolment}
 use Rattle.dali_controller.proofs.Given as given
-use Rattle.dali_events.specs.Wanted.{gear_of}
 use Rattle.dali_events.proofs.Search.Wanted as wanted
-use Rattle.dali_progress.proofs.Both.{never_eight, has_address}
-use Rattle.dali_progress.proofs.Misheard.Begins.{KeepsAsked, IsOwn, Keeps, IsNext, calm_of, calm_ordered, first_by, asks_on, one_most, hunts_first}
-use Rattle.dali_progress.proofs.Misheard.Gear.{AreKnown, HasOne}
-use Rattle.dali_progress.proofs.Misheard.Stands.{IsSpent, Asks, Calls, Draws, AreTabledBelow, AreSeen, IsCensus, Census, KnownAt, EndsBy, MisheardStands}
-use Rattle.dali_progress.proofs.Survey.{Begins.begins_whole, Begins.all_taken, Hunting.nothing_open, Queried.Holds, Queried.one_gear, Queried.IsAtHand}
-use Rattle.dali_progress.proofs.Survey.{Stands.AreTaken, Turns.IsUncontradicted, Turns.silent_next, Turns.heard_next}
-use Rattle.dali_progress.proofs.Surveying.{roll_first, called_short, roll_over, IsClear}
 use Rattle.dali_progress.proofs.Misheard.Gear as gear
+use Rattle.dali_progress.proofs.{Both.{never_eight, has_address}, Misheard.Begins.{KeepsAsked, IsOwn, Keeps, first_by, asks_on, one_most, hunts_first, GoesTo}}
+use Rattle.dali_progress.proofs.{Misheard.Gear.{AreKnown, HasOne}, Misheard.Stands.{IsSpent, Asks, Calls, Draws, AreTabledBelow, AreSeen, IsCensus, Census}}
+use Rattle.dali_progress.proofs.{Misheard.Stands.{KnownAt, EndsBy, MisheardStands}, Survey.Begins.{begins_whole, all_taken}, Survey.Hunting.nothing_open}
+use Rattle.dali_progress.proofs.{Survey.Queried.{Holds, one_gear, IsAtHand}, Survey.Stands.AreTaken, Survey.Turns.{IsUncontradicted, silent_next, heard_next}}
+use Rattle.dali_progress.proofs.Surveying.{roll_first, called_short, roll_over, IsClear}
 
 -- A CONTROLLER ACTS on what it was told, and what it orders goes on with the survey.
 
@@ -97,7 +84,7 @@ own_by k b n gs kept known one small drew fresh a has =
 told_turns : (g : ℕ) (t : Machine) (o : Order) (a b n : ℕ) (gs : List Gear) → IsGivenBy t o → MisheardStands true g t gs → IsAtHand t.kept gs
     → IsUncontradicted t
     → t.course.purpose ≡ Asking a → stage_of t.trace ≡ stage.Spelled b (Some n) → Asks g t.course t.silent gs
-    → Census a (stage.Spelled b (Some n)) t.kept t.heard t.course gs → IsNext g (machine_ordered t o) o gs
+    → Census a (stage.Spelled b (Some n)) t.kept t.heard t.course gs → GoesTo g t o gs
 told_turns g t o a b n gs by st hand agreed purpose is v w = go (nat_lt n MASK24) refl where
   who : ℕ
   who = w.ask.asked.1.0
@@ -112,9 +99,9 @@ told_turns g t o a b n gs by st hand agreed purpose is v w = go (nat_lt n MASK24
   same i has = ap (λ j. (gear_of gs j).random) (one_gear gs hand.one i w.ask.asked.1.0 a has holds) ∙ sym number
 
   goes : (q : Order) → q ≡ beginning (next_course t)
-      → ((i : ℕ) → Holds gs i a → (gear_of gs i).random < MASK24 → Has t.kept.enrolled (a, (gear_of gs i).random)) → IsNext g (machine_ordered t q) q gs
+      → ((i : ℕ) → Holds gs i a → (gear_of gs i).random < MASK24 → Has t.kept.enrolled (a, (gear_of gs i).random)) → GoesTo g t q gs
   goes q begins here =
-      asks_on g t q gs (calm_of g t gs st) begins (ap (begins_at t) is)
+      asks_on g t q gs st.calm begins (ap (begins_at t) is)
       (next_asks g a (stage.Spelled b (Some n)) t.kept t.heard t.course t.silent gs v w w.ask.clear here) hand.one hand.holds
 
   sought_is : n < MASK24 → IsSought t.course.purpose t.course.number n
@@ -149,17 +136,17 @@ told_turns g t o a b n gs by st hand agreed purpose is v w = go (nat_lt n MASK24
           (subst (λ c. c < 64) (sym w.ask.asked.0) w.ask.small) small fresh.0),
     )
 
-  follows : (q : Order) → IsGivenBy t q → n < MASK24 → AfterFinding t b n q → IsNext g (machine_ordered t q) q gs
+  follows : (q : Order) → IsGivenBy t q → n < MASK24 → AfterFinding t b n q → GoesTo g t q gs
   follows (Put p f) by small has =
       goes (Put p f) (given.spelled_known t (Put p f) b n by is (sought_is small) hand.kept.enrolled has)
       (λ i told drew. subst (λ m. Has t.kept.enrolled (a, m)) (sym (same i told)) (subst (λ c. Has t.kept.enrolled (c, n)) w.ask.asked.0 has))
   follows (Commit x) by small is_enrol =
       let may : IsFresh t.kept.enrolled (b, n) = subst (λ y. MayAdd t.kept y) is_enrol by.ordered.allowed.may in
-      subst (λ y. IsNext g (machine_ordered t (Commit y)) (Commit y) gs) (sym is_enrol) (calm_ordered g t (Enrol b n) gs st, enrols small may)
+      subst (λ y. GoesTo g t (Commit y) gs) (sym is_enrol) (st.calm, enrols small may)
   follows (Done e) by small never = absurd never
   follows (Halt why) by small contradicts = absurd (agreed (Resolved b n) (found_at g t gs (stage.Spelled b (Some n)) st is) contradicts)
 
-  go : (s : Bool) → nat_lt n MASK24 ≡ s → IsNext g (machine_ordered t o) o gs
+  go : (s : Bool) → nat_lt n MASK24 ≡ s → GoesTo g t o gs
   go true less =
       let small : n < MASK24 = grind (arith, nat_tests, less) in
       follows o by small (by.followed.told b n is (sought_is small))
@@ -172,24 +159,24 @@ pub census_turns : (g : ℕ) (t : Machine) (o : Order) (a : ℕ) (s : Stage) (gs
     → IsUncontradicted t
     → IsNoEnrolment t.last → t.course.purpose ≡ Asking a → stage_of t.trace ≡ s → (s ≡ stage.Free → ⊥) → Asks g t.course t.silent gs
     → Census a s t.kept t.heard t.course gs → IsWhole (machine_ordered t o) → turn_of (Asking a) t.course.number s ≡ None
-    → IsNext g (machine_ordered t o) o gs
+    → GoesTo g t o gs
 census_turns g t o a stage.Free gs by st hand agreed last purpose is running v w whole over = absurd (running refl)
 census_turns g t o a (stage.HighAsked b None) gs by st hand agreed last purpose is running v w whole over = go (t.asked == 0) refl where
   begins : o ≡ beginning (next_course t)
   begins =
       begins_whole t o (Asking a) (stage.HighAsked b None) by purpose is (λ r e. cc) (λ e. cc) tt (λ f sends. (let none = sends.0 in cc))
-      (found_at g t gs (stage.HighAsked b None) st is) last st.tries whole
+      (found_at g t gs (stage.HighAsked b None) st is) last st.calm.untried whole
 
   next : next_course t ≡ asked_once t (t.asked == 0)
   next = ap (begins_at t) is
 
-  go : (e : Bool) → (t.asked == 0) ≡ e → IsNext g (machine_ordered t o) o gs
+  go : (e : Bool) → (t.asked == 0) ≡ e → GoesTo g t o gs
   go true none =
-      asks_on g t o gs (calm_of g t gs st) begins (next ∙ ap (asked_once t) none)
+      asks_on g t o gs st.calm begins (next ∙ ap (asked_once t) none)
       (next_asks g a (stage.HighAsked b None) t.kept t.heard t.course t.silent gs v w w.ask.clear (λ i has drew. absurd (w.ask.asked.1 i has)))
       hand.one hand.holds
   go false again =
-      first_by g t o t.course gs (calm_of g t gs st) begins (next ∙ ap (asked_once t) again) st.way
+      first_by g t o t.course gs st.calm begins (next ∙ ap (asked_once t) again) st.calm.way
       (rw purpose (record { unopened = v.unopened; counted = v.counted }))
       (rw purpose (record { ask = record { small = w.ask.small; asked = tt; clear = w.ask.clear }; from_is = w.from_is; census = w.census }))
 census_turns g t o a (stage.HighAsked b (Some u)) gs by st hand agreed last purpose is running v w whole over = absurd (cc)
@@ -217,7 +204,7 @@ heard_few y calls passed unblocked = go (nat_lt y.calls 3) refl (nat_lt 0 y.pass
 blocked_turns : (g : ℕ) (t : Machine) (o : Order) (r : SearchAddress) (h : Answer) (room : ℕ) (gs : List Gear) → MisheardStands true g t gs
     → Calls g (stage.Hunted r (Some h) room) t.course t.silent gs → AreSeen t.kept t.heard gs × IsSpent g t.course.tally t.kept t.heard gs
     → o ≡ beginning (next_course t) → next_course t ≡ blocked t
-    → is_blocked t.course.tally ≡ true → IsNext g (machine_ordered t o) o gs
+    → is_blocked t.course.tally ≡ true → GoesTo g t o gs
 blocked_turns g t o r h room gs st v known begins next is_blocked_now = go (nat_lt t.course.tally.draws 3) refl (has_open t) refl where
   passed : 0 < t.course.tally.passed.count
   passed = some (wanted.both_pass (not (nat_lt t.course.tally.calls 3)) (nat_lt 0 t.course.tally.passed.count) is_blocked_now).1 where
@@ -227,13 +214,13 @@ blocked_turns g t o r h room gs st v known begins next is_blocked_now = go (nat_
   by : (b : Bool) → may_draw t ≡ b → next_course t ≡ (if b then opening_at_last t.course else closing_by t.course GaveUp)
   by b e = next ∙ ap (λ q. if q then opening_at_last t.course else closing_by t.course GaveUp) e
 
-  closes : may_draw t ≡ false → EndsBy g GaveUp t.kept t.heard gs → IsNext g (machine_ordered t o) o gs
+  closes : may_draw t ≡ false → EndsBy g GaveUp t.kept t.heard gs → GoesTo g t o gs
   closes none well =
-      first_by g t o (closing_by t.course GaveUp) gs (calm_of g t gs st) begins (by false none) st.way (record { stage_is = tt; well = well }) known.0
+      first_by g t o (closing_by t.course GaveUp) gs st.calm begins (by false none) st.calm.way (record { stage_is = tt; well = well }) known.0
 
-  go : (a : Bool) → nat_lt t.course.tally.draws 3 ≡ a → (b : Bool) → has_open t ≡ b → IsNext g (machine_ordered t o) o gs
+  go : (a : Bool) → nat_lt t.course.tally.draws 3 ≡ a → (b : Bool) → has_open t ≡ b → GoesTo g t o gs
   go true few true free =
-      first_by g t o (opening_at_last t.course) gs (calm_of g t gs st) begins (by true (rw (few, free) refl)) st.way
+      first_by g t o (opening_at_last t.course) gs st.calm begins (by true (rw (few, free) refl)) st.calm.way
       (record {
         opened_is = v.opened_is;
         counted = record {
@@ -264,7 +251,7 @@ blocked_turns g t o r h room gs st v known begins next is_blocked_now = go (nat_
 
 answered_call : (g : ℕ) (t : Machine) (o : Order) (r : SearchAddress) (h : Answer) (room : ℕ) (gs : List Gear) → IsGivenBy t o → MisheardStands true g t gs
     → t.course.purpose ≡ Calling → stage_of t.trace ≡ stage.Hunted r (Some h) room → Calls g (stage.Hunted r (Some h) room) t.course t.silent gs
-    → call_turn (Some h) room ≡ None → IsNext g (machine_ordered t o) o gs
+    → call_turn (Some h) room ≡ None → GoesTo g t o gs
 answered_call g t o r h room gs by st purpose is v over = go (is_yes h) refl where
   known : AreSeen t.kept t.heard gs × IsSpent g t.course.tally t.kept t.heard gs
   known = known_as g t gs Calling st purpose
@@ -272,34 +259,28 @@ answered_call g t o r h room gs by st purpose is v over = go (is_yes h) refl whe
   begins : o ≡ beginning (next_course t)
   begins = by.followed.called r h room is purpose over
 
-  silent_one : is_yes h ≡ false → (b : Bool) → t.course.tally.is_silent ≡ b → IsNext g (machine_ordered t o) o gs
+  silent_one : is_yes h ≡ false → (b : Bool) → t.course.tally.is_silent ≡ b → GoesTo g t o gs
   silent_one quiet_so true twice =
-      first_by g t o (closing_by t.course AllFound) gs (calm_of g t gs st) begins
-      (silent_next t r h room true is purpose quiet_so twice) st.way
+      first_by g t o (closing_by t.course AllFound) gs st.calm begins
+      (silent_next t r h room true is purpose quiet_so twice) st.calm.way
       (record { stage_is = tt; well = called_short h room gs v.roll.stage_is.1 quiet_so }) known.0
   silent_one quiet_so false once =
-      first_by g t o (calling (record t.course { tally = silent_call t.course.tally })) gs (calm_of g t gs st) begins
-      (silent_next t r h room false is purpose quiet_so once) st.way
+      first_by g t o (calling (record t.course { tally = silent_call t.course.tally })) gs st.calm begins
+      (silent_next t r h room false is purpose quiet_so once) st.calm.way
       (record {
         opened_is = v.opened_is;
-        counted = record {
-          calls = v.counted.calls;
-          draws = v.counted.draws;
-          passed = v.counted.passed;
-          quiet = v.counted.quiet;
-          drawn = v.counted.drawn;
-        };
+        counted = v.counted;
         roll = roll_first gs;
       }) known
 
-  heard_one : is_yes h ≡ true → (b : Bool) → is_blocked t.course.tally ≡ b → IsNext g (machine_ordered t o) o gs
+  heard_one : is_yes h ≡ true → (b : Bool) → is_blocked t.course.tally ≡ b → GoesTo g t o gs
   heard_one heard_so true stuck =
       blocked_turns g t o r h room gs st v known begins
       (heard_next t r h room true is purpose heard_so stuck) stuck
   heard_one heard_so false free =
       let few = heard_few t.course.tally v.counted.calls v.counted.passed free in
-      hunts_first g t o (record t.course { tally = heard_call t.course.tally }) gs (calm_of g t gs st) begins
-      (heard_next t r h room false is purpose heard_so free) st.way v.opened_is
+      hunts_first g t o (record t.course { tally = heard_call t.course.tally }) gs st.calm begins
+      (heard_next t r h room false is purpose heard_so free) st.calm.way v.opened_is
       (record {
         calls = few.0;
         draws = v.counted.draws;
@@ -311,13 +292,13 @@ answered_call g t o r h room gs by st purpose is v over = go (is_yes h) refl whe
       more : (n m : ℕ) → n ≤ m → n ≤ m + 1
       more n m less = omega (arith, less)
 
-  go : (b : Bool) → is_yes h ≡ b → IsNext g (machine_ordered t o) o gs
+  go : (b : Bool) → is_yes h ≡ b → GoesTo g t o gs
   go false quiet_so = silent_one quiet_so t.course.tally.is_silent refl
   go true heard_so = heard_one heard_so (is_blocked t.course.tally) refl
 
 pub calling_turns : (g : ℕ) (t : Machine) (o : Order) (s : Stage) (gs : List Gear) → IsGivenBy t o → MisheardStands true g t gs → t.course.purpose ≡ Calling
     → stage_of t.trace ≡ s → (s ≡ stage.Free → ⊥) → Calls g s t.course t.silent gs → turn_of Calling t.course.number s ≡ None
-    → IsNext g (machine_ordered t o) o gs
+    → GoesTo g t o gs
 calling_turns g t o s gs by st purpose is running v over =
     let at = roll_over s t.course.number gs v.roll over running in
     answered_call g t o at.0 at.1 at.2 gs by st purpose (is ∙ at.3) (subst (λ q. Calls g q t.course t.silent gs) at.3 v) at.4
@@ -326,11 +307,11 @@ calling_turns g t o s gs by st purpose is running v over =
 
 pub drawn_turns : (g : ℕ) (t : Machine) (o : Order) (p : Purpose) (gs : List Gear) → IsGivenBy t o → MisheardStands true g t gs → IsNoEnrolment t.last
     → stage_of t.trace ≡ stage.Opened → Draws p stage.Opened t.course t.silent gs → AreSeen t.kept t.heard gs
-    → IsNext g (machine_ordered t o) o gs
+    → GoesTo g t o gs
 drawn_turns g t o p gs by st last is v known =
-    hunts_first g t o t.course gs (calm_of g t gs st)
-    (given.begins_after t o stage.Opened by is tt (found_at g t gs stage.Opened st is) last (never_eight t.tries st.tries))
-    (ap (begins_at t) is ∙ ap (λ y. searching_first y t.course) st.way) st.way v.opened_is
+    hunts_first g t o t.course gs st.calm
+    (given.begins_after t o stage.Opened by is tt (found_at g t gs stage.Opened st is) last (never_eight t.tries st.calm.untried))
+    (ap (begins_at t) is ∙ ap (λ y. searching_first y t.course) st.calm.way) st.calm.way v.opened_is
     (record {
       calls = v.counted.calls;
       draws = v.counted.draws;

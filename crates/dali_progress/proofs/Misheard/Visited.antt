@@ -1,28 +1,19 @@
-use Rattle.std.proofs.Common.{◌≡◌, ℕ, ◌<◌, ◌≤◌, ◌⊎◌, inl, inr, Bool, true, false, List, refl, sym, ap, subst, ◌∙◌, arith, length, Option, Some, None, ◌==◌}
-use Rattle.std.proofs.Common.{◌&&◌, ◌/◌, ◌%◌, nat_lt, if◌then◌else◌}
-use Rattle.std.proofs.lemmas.Bool.Decides.{nat_tests}
-use Rattle.dali_frame.specs.{Random.value_of, Random.MASK24, Short.short_of, declared.frames.Answer.Answer, declared.frames.Answer.TheVariants.Silence}
-use Rattle.dali_frame.specs.declared.{frames.Answer.TheVariants.Byte, frames.Answer.TheVariants.Damaged, numbers.SearchAddress.SearchAddress}
-use Rattle.dali_special.specs.{Command.MASK, Command.program_data, declared.command.Command.Command}
-use Rattle.dali_special.specs.declared.command.Command.TheVariants.{Withdraw, SearchHigh, SearchMiddle, SearchLow, Program, QueryShort}
-use Rattle.dali_gear.specs.{Gear.Gear, Row.row_after, Row.answers_of, Row.heard_of, declared.row.Reach.TheVariants.Everyone}
-use Rattle.dali_script.specs.{Records.Kept, Stages.named, Stages.queried, Stages.answered, Stages.verified, declared.stage.Stage.Stage}
+use Rattle.dali_progress.proofs.Below.{◌≡◌, ℕ, ◌<◌, ◌≤◌, ◌⊎◌, inl, inr, Bool, true, false, List, refl, sym, ap, subst, ◌∙◌, arith, length, Option, Some, None}
+use Rattle.dali_progress.proofs.Below.{◌==◌, ◌&&◌, ◌/◌, ◌%◌, nat_lt, if◌then◌else◌, nat_tests, value_of, MASK24, short_of, Answer, Silence, Byte, Damaged}
+use Rattle.dali_progress.proofs.Below.{SearchAddress, MASK, program_data, Command, Withdraw, SearchHigh, SearchMiddle, SearchLow, Program, QueryShort, Gear}
+use Rattle.dali_progress.proofs.Below.{row_after, answers_of, heard_of, Everyone, Kept, named, queried, verified, Stage, Ascent, Course, sought, silent_after}
+use Rattle.dali_progress.proofs.Below.{Sends, Purpose, Visiting, PassingOver, gear_of, is_wanted, wants, Seek, SameCore, after_program, programmed_wants}
+use Rattle.dali_progress.proofs.Below.{programs_at, after_withdraw, withdrawn_wants, withdraws_at, IsNoByte, IsHeardBut}
+use Rattle.dali_script.specs.Stages.{answered}
 use Rattle.dali_script.specs.declared.stage.Stage.TheVariants as stage
-use Rattle.dali_search.specs.Ascending.{Ascent}
-use Rattle.dali_controller.specs.{Course.Course, Course.sought, Machine.silent_after, Whole.Sends}
-use Rattle.dali_controller.specs.declared.purpose.Purpose.{Purpose, TheVariants.Visiting, TheVariants.PassingOver}
-use Rattle.dali_events.specs.Wanted.{gear_of, is_wanted, wants, Seek}
-use Rattle.dali_events.proofs.Search.{Leaving.SameCore, Programming.after_program, Programming.programmed_wants, Programming.programs_at}
-use Rattle.dali_events.proofs.Search.Withdrawing.{after_withdraw, withdrawn_wants, withdraws_at}
 use Rattle.dali_events.proofs.Search.Leaving as leaving
 use Rattle.dali_events.proofs.Search.Wanted as wanted
-use Rattle.dali_progress.{specs.Misheard.IsNoByte, specs.Misheard.IsHeardBut, proofs.Frames.Seeks, proofs.Frames.value_sought, proofs.Frames.some_is}
-use Rattle.dali_progress.proofs.{Frames.mask_queried, Frames.verified_short, Frames.short_given, Frames.short_kept, Later.queried_by, Later.verified_by}
-use Rattle.dali_progress.proofs.Misheard.Gear.{AreSought, AreBare, AreBareBut, AreNamedBut, HasOne}
-use Rattle.dali_progress.proofs.Misheard.Sent.{Taken, counted_on, told_hunts, few_on, reached_core, own_core, hunts_core, low_byte, HuntedTo}
-use Rattle.dali_progress.proofs.Misheard.Stands.{StageOf, IsCounted, IsReached, IsPast, IsOfOne, VisitStage, Visits, HuntAt, found_at, failed_at, Hunts}
-use Rattle.dali_progress.proofs.{Stands.HaveShort, Survey.Woken.low_after}
 use Rattle.dali_progress.proofs.Misheard.Gear as gear
+use Rattle.dali_progress.proofs.{Frames.{Seeks, value_sought, mask_queried, verified_short, short_given, short_kept}, Stands.{some_is, HaveShort}}
+use Rattle.dali_progress.proofs.{Later.{queried_by, verified_by}, Misheard.Gear.{AreSought, AreBare, AreBareBut, AreNamedBut, HasOne}, Misheard.Sent.Taken}
+use Rattle.dali_progress.proofs.Misheard.Sent.{counted_on, told_hunts, few_on, reached_core, own_core, hunts_core, low_byte, HuntedTo}
+use Rattle.dali_progress.proofs.Misheard.Stands.{StageOf, IsCounted, IsReached, IsPast, IsOfOne, VisitStage, Visits, HuntAt, found_at, failed_at, Hunts}
+use Rattle.dali_progress.proofs.{Survey.Woken.low_after}
 
 -- A FRAME OF A VISIT IS SENT. If it is gear g that is visited, anything may be heard of it; of any other it is heard what it
 -- answers.

@@ -1,41 +1,29 @@
-use Rattle.std.proofs.Common.{◌≡◌, ℕ, ◌+◌, ◌-◌, ◌*◌, ◌<◌, ◌≤◌, ◌⊎◌, inl, inr, Bool, true, false, List, refl, sym, ap, subst, ◌∙◌, arith, length, Option, Some}
-use Rattle.std.proofs.Common.{None, ◌==◌, not, nat_lt, MatchOption, if◌then◌else◌}
-use Rattle.std.proofs.lemmas.Bool.Decides.{nat_tests}
-use Rattle.dali_frame.specs.{Priority.LATER, Random.value_of, Random.MASK24, declared.frames.Answer.Answer, declared.numbers.SearchAddress.SearchAddress}
-use Rattle.dali_special.specs.{Command.frame_of, declared.command.Command.Command, declared.command.Command.TheVariants.Program}
-use Rattle.dali_gear.specs.{Gear.Gear, declared.state.InitialisationState.TheVariants.Enabled}
-use Rattle.dali_script.specs.{Records.Has, Records.HasRandom, Records.IsFresh, Records.MayAdd, Stages.stage_of, declared.finding.Finding.TheVariants.Queried}
-use Rattle.dali_script.specs.declared.orders.{End.TheVariants.BlockFull, End.TheVariants.GaveUp, Order.Order}
-use Rattle.dali_script.specs.declared.orders.Order.TheVariants.{Put, Commit, Done, Halt}
-use Rattle.dali_script.specs.declared.{records.Record.TheVariants.Reserve, records.Record.TheVariants.Enrol, stage.Stage.Stage}
+use Rattle.dali_progress.proofs.Below.{◌≡◌, ℕ, ◌+◌, ◌-◌, ◌*◌, ◌<◌, ◌≤◌, ◌⊎◌, inl, inr, Bool, true, false, List, refl, sym, ap, subst, ◌∙◌, arith, length}
+use Rattle.dali_progress.proofs.Below.{Option, Some, None, ◌==◌, not, nat_lt, MatchOption, if◌then◌else◌, nat_tests, LATER, value_of, MASK24, Answer}
+use Rattle.dali_progress.proofs.Below.{SearchAddress, frame_of, Command, Program, Gear, Enabled, Has, HasRandom, IsFresh, MayAdd, stage_of, Queried, BlockFull}
+use Rattle.dali_progress.proofs.Below.{GaveUp, Order, Put, Commit, Done, Halt, Stage, Ascent, Knows, IsAscent, ascent_at_first, asked_next, leads_to, ascended}
+use Rattle.dali_progress.proofs.Below.{one_if, Gives, Again, Found, Nobody, Course, is_yes, byte_to_send, bytes_to_send, address_for, least_open, turn_of}
+use Rattle.dali_progress.proofs.Below.{ask_or_call, asking_again, next_asked, calling, drawing, opening_anew, closing as closing_by, hunting, visiting}
+use Rattle.dali_progress.proofs.Below.{passing_over, missed, hunted, Machine, is_withheld, next_course, begins_at, beginning, course_by, hunted_to, nobody_left}
+use Rattle.dali_progress.proofs.Below.{undrawn, full, asks_again, has_open, may_draw, silenced, silenced_on, missed_again, is_failed, unanswered, most_silent}
+use Rattle.dali_progress.proofs.Below.{question, is_hunting, machine_ordered, AfterFinding, AfterMaskOn, AfterMaskBy, AfterReserved, asked_again, passed_over}
+use Rattle.dali_progress.proofs.Below.{drew, IsWhole, Purpose, Opening, Probing, Visiting, Resolving, Closing, Hunting, Asking, Calling, Drawing, PassingOver}
+use Rattle.dali_progress.proofs.Below.{Tally, IsGivenBy, IsNoEnrolment, HasShort, gear_of, is_wanted, wants, AreServedBut}
+use Rattle.dali_search.specs.declared.step.Step.{Step}
 use Rattle.dali_script.specs.declared.stage.Stage.TheVariants as stage
-use Rattle.dali_search.specs.Ascending.{Ascent, Knows, IsAscent, ascent_at_first, asked_next, leads_to, ascended, one_if}
-use Rattle.dali_search.specs.{Least.Gives, declared.step.Step.Step}
-use Rattle.dali_search.specs.declared.step.Step.TheVariants.{Again, Found, Nobody}
-use Rattle.dali_controller.specs.Course.{Course, is_yes, byte_to_send, bytes_to_send, address_for, least_open, turn_of, ask_or_call, asking_again, next_asked}
-use Rattle.dali_controller.specs.Course.{calling, drawing, opening_anew, closing as closing_by, hunting, visiting, passing_over, missed, hunted}
-use Rattle.dali_controller.specs.Machine.{Machine, is_withheld}
-use Rattle.dali_controller.specs.Next.{next_course, begins_at, beginning, course_by, hunted_to, nobody_left, undrawn, full, asks_again, has_open, may_draw}
-use Rattle.dali_controller.specs.Next.{silenced, silenced_on, missed_again, is_failed, unanswered, most_silent, question, is_hunting}
-use Rattle.dali_controller.specs.{Orders.machine_ordered, Orders.AfterFinding, Orders.AfterMaskOn, Orders.AfterMaskBy, Orders.AfterReserved, Tally.asked_again}
-use Rattle.dali_controller.specs.{Tally.passed_over, Tally.drew, Whole.IsWhole, declared.purpose.Purpose.Purpose, declared.purpose.Purpose.TheVariants.Opening}
-use Rattle.dali_controller.specs.declared.purpose.Purpose.TheVariants.{Probing, Visiting, Resolving, Closing, Hunting, Asking, Calling, Drawing, PassingOver}
-use Rattle.dali_controller.{specs.declared.tally.Tally.Tally, proofs.Given.IsGivenBy, proofs.Given.IsNoEnrolment}
 use Rattle.dali_controller.proofs.Given as given
-use Rattle.dali_events.specs.{Searching.HasShort, Wanted.gear_of, Wanted.is_wanted, Wanted.wants}
 use Rattle.dali_events.proofs.Search.Wanted as wanted
-use Rattle.dali_progress.{specs.Misheard.AreServedBut, proofs.Accounted.open_is, proofs.Both.never_eight, proofs.Both.close_ends, proofs.Frames.value_sought}
-use Rattle.dali_progress.proofs.Misheard.Begins.{KeepsPast, IsOwn, IsNext, Calm, calm_of, calm_ordered, later_by, turns_by, first_by, fills, hunts_above}
-use Rattle.dali_progress.proofs.Misheard.{Begins.hunts_on, Gear.AreSought, Gear.AreBare, Gear.HaveDrawn, Gear.HasOne}
-use Rattle.dali_progress.proofs.Misheard.Stands.{AreSeen, IsCounted, Rises, IsReached, IsOfOne, Visits, Hunts, At, Draws, MisheardStands, IsCountedFor}
-use Rattle.dali_progress.proofs.Misheard.Turns.{found_at, known_as, own_by, census_turns, calling_turns, drawn_turns}
-use Rattle.dali_progress.proofs.Survey.{Begins.clear_reserved, Begins.nobody_elses, Begins.begins_whole, Begins.all_taken, Drawn.AreNumbered, Drawn.DrewApart}
-use Rattle.dali_progress.proofs.Survey.Hunting.{found_same, begins_by, nothing_open, later_asked, vain_next, asked_where, hunted_next}
-use Rattle.dali_progress.proofs.Survey.{Queried.IsAtHand, Rising.knows_told, Stands.AreTaken, Turns.IsUncontradicted, Visits.found_address}
-use Rattle.dali_progress.proofs.Survey.{Visits.withheld_anothers, Visits.ungiven_next, Woken.AreLow}
-use Rattle.dali_progress.proofs.Surveying.{NoneDrawn, roll_first, IsDraws, draw_over}
 use Rattle.dali_progress.proofs.Misheard.Climbing as climbing
 use Rattle.dali_progress.proofs.Misheard.Stands as stands
+use Rattle.dali_progress.proofs.{Accounted.open_is, Both.{never_eight, close_ends}, Frames.value_sought, Misheard.Begins.{KeepsPast, IsOwn, IsNext, later_by}}
+use Rattle.dali_progress.proofs.{Misheard.Begins.{turns_by, first_by, fills, hunts_above, hunts_on, GoesTo}, Misheard.Stands.{Calm, AreSeen, IsCounted, Rises}}
+use Rattle.dali_progress.proofs.{Misheard.Stands.{IsReached, IsOfOne, Visits, Hunts, At, Draws, MisheardStands, IsCountedFor}, Misheard.Gear.AreSought}
+use Rattle.dali_progress.proofs.{Misheard.Gear.{AreBare, HaveDrawn, HasOne}, Misheard.Turns.{found_at, known_as, own_by, census_turns, calling_turns}}
+use Rattle.dali_progress.proofs.{Misheard.Turns.drawn_turns, Survey.Begins.{clear_reserved, nobody_elses, begins_whole, all_taken}, Survey.Drawn.AreNumbered}
+use Rattle.dali_progress.proofs.{Survey.Drawn.DrewApart, Survey.Hunting.{found_same, begins_by, nothing_open, later_asked, vain_next, asked_where, hunted_next}}
+use Rattle.dali_progress.proofs.{Survey.Queried.IsAtHand, Survey.Rising.knows_told, Survey.Stands.AreTaken, Survey.Turns.IsUncontradicted}
+use Rattle.dali_progress.proofs.{Survey.Visits.{found_address, withheld_anothers, ungiven_next}, Survey.Woken.AreLow, Surveying.{NoneDrawn, roll_first}}
+use Rattle.dali_progress.proofs.Surveying.{IsDraws, draw_over}
 
 -- A CONTROLLER ACTS while gear are hunted and visited, and at its close; and in whatever transaction.
 
@@ -107,16 +95,16 @@ record IsOver (g : ℕ) (t : Machine) (gs : List Gear) : Type 0 where
 
 -- no gear was found: those that never drew do, or no address is open
 vain_over : (g : ℕ) (t : Machine) (o : Order) (h : Answer) (r : SearchAddress) (room : ℕ) (gs : List Gear) → o ≡ question (next_course t) r room
-    → next_course t ≡ undrawn t (hunted t.course h) → t.course.ascent.found ≡ 0 → IsOver g t gs → IsNext g (machine_ordered t o) o gs
+    → next_course t ≡ undrawn t (hunted t.course h) → t.course.ascent.found ≡ 0 → IsOver g t gs → GoesTo g t o gs
 vain_over g t o h r room gs asks next none v = go (has_open t) refl (nat_lt t.course.tally.draws 3) refl where
   calm : Calm g t gs
-  calm = calm_of g t gs v.stands
+  calm = v.stands.calm
 
-  go : (a : Bool) → has_open t ≡ a → (b : Bool) → nat_lt t.course.tally.draws 3 ≡ b → IsNext g (machine_ordered t o) o gs
+  go : (a : Bool) → has_open t ≡ a → (b : Bool) → nat_lt t.course.tally.draws 3 ≡ b → GoesTo g t o gs
   go true free true few =
       first_by g t o (drawing (hunted t.course h)) gs calm
       (begins_by t o (drawing (hunted t.course h)) r room asks (vain_next t h true true next free few) refl)
-      (vain_next t h true true next free few) v.stands.way
+      (vain_next t h true true next free few) v.stands.calm.way
       (record {
         opened_is = v.opened_is;
         counted = counted_draw g t.course.tally t.silent gs v.counted few;
@@ -130,14 +118,15 @@ vain_over g t o h r room gs asks next none v = go (has_open t) refl (nat_lt t.co
   go true free false spent =
       first_by g t o (closing_by (hunted t.course h) GaveUp) gs calm
       (begins_by t o (closing_by (hunted t.course h) GaveUp) r room asks (vain_next t h true false next free spent) refl)
-      (vain_next t h true false next free spent) v.stands.way
+      (vain_next t h true false next free spent) v.stands.calm.way
       (record { stage_is = tt; well = inl (served_by g t.course.ascent.found gs v.sought_are (v.counted.drawn (some t.course.tally.draws spent)) v.nobody) })
       v.known
     where
       some : (n : ℕ) → nat_lt n 3 ≡ false → 0 < n
       some n e = grind (arith, nat_tests, e)
   go false shut b few =
-      fills g t o (hunted t.course h) gs calm (begins_full (vain_next t h false b next shut few)) (vain_next t h false b next shut few) v.stands.way v.counted
+      fills g t o (hunted t.course h) gs calm (begins_full (vain_next t h false b next shut few))
+      (vain_next t h false b next shut few) v.stands.calm.way v.counted
       v.known (all_taken t.kept t.heard (nothing_open t shut)) v.hand.one v.hand.holds
     where
       begins_full : next_course t ≡ full t (hunted t.course h) → o ≡ beginning (next_course t)
@@ -145,10 +134,10 @@ vain_over g t o h r room gs asks next none v = go (has_open t) refl (nat_lt t.co
 
 -- some gear was: the roll is called
 found_over : (g : ℕ) (t : Machine) (o : Order) (h : Answer) (r : SearchAddress) (room : ℕ) (gs : List Gear) → o ≡ question (next_course t) r room
-    → next_course t ≡ calling (hunted t.course h) → IsOver g t gs → IsNext g (machine_ordered t o) o gs
+    → next_course t ≡ calling (hunted t.course h) → IsOver g t gs → GoesTo g t o gs
 found_over g t o h r room gs asks next v =
-    first_by g t o (calling (hunted t.course h)) gs (calm_of g t gs v.stands) (begins_by t o (calling (hunted t.course h)) r room asks next refl) next
-    v.stands.way
+    first_by g t o (calling (hunted t.course h)) gs v.stands.calm (begins_by t o (calling (hunted t.course h)) r room asks next refl) next
+    v.stands.calm.way
     (record {
       opened_is = v.opened_is;
       counted = v.counted;
@@ -157,12 +146,12 @@ found_over g t o h r room gs asks next v =
     (v.known, inl (λ passed drew. served_by g t.course.ascent.found gs v.sought_are (v.counted.drawn drew) v.nobody))
 
 hunt_over : (g : ℕ) (t : Machine) (o : Order) (h : Answer) (r : SearchAddress) (room : ℕ) (gs : List Gear) → o ≡ question (next_course t) r room
-    → next_course t ≡ nobody_left t (hunted t.course h) → IsOver g t gs → IsNext g (machine_ordered t o) o gs
+    → next_course t ≡ nobody_left t (hunted t.course h) → IsOver g t gs → GoesTo g t o gs
 hunt_over g t o h r room gs asks next v = go ((hunted t.course h).ascent.found == 0) refl where
   by : (b : Bool) → ((hunted t.course h).ascent.found == 0) ≡ b → next_course t ≡ (if b then undrawn t (hunted t.course h) else calling (hunted t.course h))
   by b is = next ∙ ap (λ y. if y then undrawn t (hunted t.course h) else calling (hunted t.course h)) is
 
-  go : (b : Bool) → ((hunted t.course h).ascent.found == 0) ≡ b → IsNext g (machine_ordered t o) o gs
+  go : (b : Bool) → ((hunted t.course h).ascent.found == 0) ≡ b → GoesTo g t o gs
   go true is =
       vain_over g t o h r room gs asks (by true is)
       (sym (found_same t.course.ascent (is_yes h)) ∙ wanted.same_number (hunted t.course h).ascent.found 0 is) v
@@ -175,12 +164,10 @@ goes_on : (g : ℕ) (t : Machine) (o : Order) (h : Answer) (r : SearchAddress) (
     → t.course.purpose ≡ Hunting → stage_of t.trace ≡ stage.Hunted r (Some h) room → next_course t ≡ hunting (hunted t.course h)
     → o ≡ Put LATER (frame_of (byte_to_send (hunting (hunted t.course h)).number r))
     → Hunts false g Hunting (stage.Hunted r (Some h) room) (hunting (hunted t.course h)) t.silent gs
-    → AreSeen t.kept t.heard gs → IsNext g (machine_ordered t o) o gs
-goes_on g t o h r room gs st purpose is next sends v known = subst (λ q. IsNext g (machine_ordered t q) q gs) (sym sends)
+    → AreSeen t.kept t.heard gs → GoesTo g t o gs
+goes_on g t o h r room gs st purpose is next sends v known = subst (λ q. GoesTo g t q gs) (sym sends)
     (subst (λ m. IsNext g m (Put LATER (frame_of c)) gs) (sym (later_asked t h r room (frame_of c) purpose is next)) (record {
-      there = st.there;
-      tries = st.tries;
-      way = st.way;
+      calm = st.calm;
       trace = st.trace;
       at = subst (λ s. Hunts false g Hunting s (hunting (hunted t.course h)) t.silent gs) (sym is) v;
       known = known;
@@ -190,7 +177,7 @@ goes_on g t o h r room gs st purpose is next sends v known = subst (λ q. IsNext
 
 answered_turns : (g : ℕ) (t : Machine) (o : Order) (r : SearchAddress) (h : Answer) (room : ℕ) (gs : List Gear) → IsGivenBy t o
     → MisheardStands true g t gs → IsAtHand t.kept gs → t.course.purpose ≡ Hunting → stage_of t.trace ≡ stage.Hunted r (Some h) room
-    → Hunts true g Hunting (stage.Hunted r (Some h) room) t.course t.silent gs → IsNext g (machine_ordered t o) o gs
+    → Hunts true g Hunting (stage.Hunted r (Some h) room) t.course t.silent gs → GoesTo g t o gs
 answered_turns g t o r h room gs by st hand purpose is v = go (leads_to (ascended t.course.ascent (is_yes h))) refl where
   known : AreSeen t.kept t.heard gs
   known = known_as g t gs Hunting st purpose
@@ -220,7 +207,7 @@ answered_turns g t o r h room gs by st hand purpose is v = go (leads_to (ascende
   sought_are = subst (λ n. AreSought g n gs) (sym (found_same t.course.ascent (is_yes h))) v.sought_are
 
   again : (b : Bool) → nat_lt (bytes_to_send (hunting (hunted t.course h)).number r) room ≡ b
-      → leads_to (ascended t.course.ascent (is_yes h)) ≡ Again → IsNext g (machine_ordered t o) o gs
+      → leads_to (ascended t.course.ascent (is_yes h)) ≡ Again → GoesTo g t o gs
   again true some e =
       goes_on g t o h r room gs st purpose is (next Again e)
       (asked_where t o h r room true asks (next Again e) some)
@@ -234,8 +221,8 @@ answered_turns g t o r h room gs by st hand purpose is v = go (leads_to (ascende
         at = record { is = ascent; knows = knows; running = e; number = refl; bare = p.bare; stage_is = tt };
       }) known
   again false none e =
-      first_by g t o (hunting (hunted t.course h)) gs (calm_of g t gs st)
-      (asked_where t o h r room false asks (next Again e) none) (next Again e) st.way
+      first_by g t o (hunting (hunted t.course h)) gs st.calm
+      (asked_where t o h r room false asks (next Again e) none) (next Again e) st.calm.way
       (record {
         opened_is = v.opened_is;
         counted = v.counted;
@@ -246,12 +233,12 @@ answered_turns g t o r h room gs by st hand purpose is v = go (leads_to (ascende
         at = record { is = ascent; knows = knows; running = e; number = refl; bare = p.bare; stage_is = tt };
       }) known
 
-  go : (s : Step) → leads_to (ascended t.course.ascent (is_yes h)) ≡ s → IsNext g (machine_ordered t o) o gs
+  go : (s : Step) → leads_to (ascended t.course.ascent (is_yes h)) ≡ s → GoesTo g t o gs
   go Again e = again (nat_lt (bytes_to_send (hunting (hunted t.course h)).number r) room) refl e
   go (Found m) e =
       let there = climbing.found_is (wants gs) (ascended t.course.ascent (is_yes h)) m knows e in
-      first_by g t o (visiting (hunted t.course h) m) gs (calm_of g t gs st)
-      (begins_by t o (visiting (hunted t.course h) m) r room asks (next (Found m) e) refl) (next (Found m) e) st.way
+      first_by g t o (visiting (hunted t.course h) m) gs st.calm
+      (begins_by t o (visiting (hunted t.course h) m) r room asks (next (Found m) e) refl) (next (Found m) e) st.calm.way
       (record {
         opened_is = v.opened_is;
         counted = v.counted;
@@ -281,7 +268,7 @@ answered_turns g t o r h room gs by st hand purpose is v = go (leads_to (ascende
 
 hunting_turns : (g : ℕ) (t : Machine) (o : Order) (s : Stage) (gs : List Gear) → IsGivenBy t o → MisheardStands true g t gs → IsAtHand t.kept gs
     → t.course.purpose ≡ Hunting → stage_of t.trace ≡ s → (s ≡ stage.Free → ⊥) → Hunts true g Hunting s t.course t.silent gs
-    → turn_of Hunting t.course.number s ≡ None → IsNext g (machine_ordered t o) o gs
+    → turn_of Hunting t.course.number s ≡ None → GoesTo g t o gs
 hunting_turns g t o stage.Free gs by st hand purpose is running v over = absurd (running refl)
 hunting_turns g t o (stage.HighSent high) gs by st hand purpose is running v over = absurd (cc)
 hunting_turns g t o (stage.LowSent high low) gs by st hand purpose is running v over = absurd (cc)
@@ -309,7 +296,7 @@ failed_turns : (g : ℕ) (t : Machine) (o : Order) (s : Stage) (gs : List Gear) 
     → (w : Visits g Visiting s t.course.ascent t.course.number gs)
     → IsReached t.course.ascent w.visited gs × AreBare g gs × IsOfOne g w.visited gs → AreSeen t.kept t.heard gs
     → o ≡ beginning (next_course t) → next_course t ≡ silenced t
-    → IsNext g (machine_ordered t o) o gs
+    → GoesTo g t o gs
 failed_turns g t o s gs st apart v failed found w at known begins next = go (is_failed t.course.tally.failed (value_of t.course.number)) refl where
   y : Tally
   y = t.course.tally
@@ -324,13 +311,13 @@ failed_turns g t o s gs st apart v failed found w at known begins next = go (is_
   own = value ∙ sym at.2
 
   few : t.course.tally.passed.count ≤ t.course.tally.calls + t.course.tally.draws
-  few = v.few (one_wanted g w.visited gs apart st.there w.drawn at.0.there at.2)
+  few = v.few (one_wanted g w.visited gs apart st.calm.there w.drawn at.0.there at.2)
 
   sought_are : AreSought g t.course.ascent.found gs
   sought_are = subst (λ n. AreSought g n gs) found v.sought_are
 
   loud : (t.silent == most_silent t.course.way) ≡ false
-  loud = ap (λ q. t.silent == most_silent q) st.way ∙ other t.silent (one_if (not (is_failed t.course.tally.failed (gear_of gs g).random)))
+  loud = ap (λ q. t.silent == most_silent q) st.calm.way ∙ other t.silent (one_if (not (is_failed t.course.tally.failed (gear_of gs g).random)))
       t.course.tally.passed.count t.course.tally.calls t.course.tally.draws counted.quiet few counted.calls counted.draws where
         apart_from : (n : ℕ) → n < 80 → (n == 80) ≡ false
         apart_from n less = grind (arith, nat_tests, less)
@@ -342,7 +329,7 @@ failed_turns g t o s gs st apart v failed found w at known begins next = go (is_
 
   by : (b : Bool) → is_failed t.course.tally.failed (value_of t.course.number) ≡ b → next_course t ≡ missed_again b t.course
   by b e =
-      next ∙ ap (λ q. if q then closing_by t.course GaveUp else silenced_on t t.course.way) loud ∙ ap (silenced_on t) st.way
+      next ∙ ap (λ q. if q then closing_by t.course GaveUp else silenced_on t t.course.way) loud ∙ ap (silenced_on t) st.calm.way
       ∙ ap (λ q. missed_again q t.course) e
 
   -- what was counted of gear g before
@@ -352,9 +339,9 @@ failed_turns g t o s gs st apart v failed found w at known begins next = go (is_
       subst (λ q. t.silent + one_if (not q) ≤ 2 * t.course.tally.passed.count + 1 + 20 * t.course.tally.draws + 1)
       (ap (is_failed t.course.tally.failed) (sym own) ∙ e) counted.quiet
 
-  go : (b : Bool) → is_failed t.course.tally.failed (value_of t.course.number) ≡ b → IsNext g (machine_ordered t o) o gs
+  go : (b : Bool) → is_failed t.course.tally.failed (value_of t.course.number) ≡ b → GoesTo g t o gs
   go true twice =
-      first_by g t o (passing_over t.course) gs (calm_of g t gs st) begins (by true twice) st.way
+      first_by g t o (passing_over t.course) gs st.calm begins (by true twice) st.calm.way
       (record {
         opened_is = v.opened_is;
         counted = record {
@@ -385,7 +372,7 @@ failed_turns g t o s gs st apart v failed found w at known begins next = go (is_
       enough : (silent count draws : ℕ) → silent + 0 ≤ 2 * count + 1 + 20 * draws + 1 → silent + 1 ≤ 2 * (count + 1) + 1 + 20 * draws + 0
       enough silent count draws quiet = omega (arith, quiet)
   go false once =
-      first_by g t o (missed t.course) gs (calm_of g t gs st) begins (by false once) st.way
+      first_by g t o (missed t.course) gs st.calm begins (by false once) st.calm.way
       (record {
         opened_is = v.opened_is;
         counted = record {
@@ -419,25 +406,25 @@ failed_turns g t o s gs st apart v failed found w at known begins next = go (is_
 -- no address can be given: gear draw new numbers, or the block is full
 ungiven_turns : (g : ℕ) (t : Machine) (o : Order) (r : SearchAddress) (gs : List Gear) → MisheardStands true g t gs
     → Hunts true g Visiting (stage.Unnamed r) t.course t.silent gs → stage_of t.trace ≡ stage.Unnamed r → o ≡ beginning (next_course t)
-    → AreTaken t.kept t.heard → AreSeen t.kept t.heard gs → IsAtHand t.kept gs → IsNext g (machine_ordered t o) o gs
+    → AreTaken t.kept t.heard → AreSeen t.kept t.heard gs → IsAtHand t.kept gs → GoesTo g t o gs
 ungiven_turns g t o r gs st v is begins filled known hand = go (may_draw t) refl where
-  go : (b : Bool) → may_draw t ≡ b → IsNext g (machine_ordered t o) o gs
+  go : (b : Bool) → may_draw t ≡ b → GoesTo g t o gs
   go true may =
-      first_by g t o (opening_anew t.course) gs (calm_of g t gs st) begins (ungiven_next t r true is st.way may) st.way
+      first_by g t o (opening_anew t.course) gs st.calm begins (ungiven_next t r true is st.calm.way may) st.calm.way
       (record {
         opened_is = v.opened_is;
         counted = counted_draw g t.course.tally t.silent gs v.counted (wanted.both_pass (nat_lt t.course.tally.draws 3) (has_open t) may).0;
         draw = record { stage_is = tt; drawn = tt; gear = λ k in_row on. tt; low = v.low };
       }) known
-  go false may = fills g t o t.course gs (calm_of g t gs st) begins (ungiven_next t r false is st.way may) st.way v.counted known filled hand.one hand.holds
+  go false may = fills g t o t.course gs st.calm begins (ungiven_next t r false is st.calm.way may) st.calm.way v.counted known filled hand.one hand.holds
 
 -- an address that is open is not marked
 unnamed_turns : (g : ℕ) (t : Machine) (o : Order) (r : SearchAddress) (gs : List Gear) → IsGivenBy t o → MisheardStands true g t gs
     → IsAtHand t.kept gs → t.course.purpose ≡ Visiting → stage_of t.trace ≡ stage.Unnamed r
-    → Hunts true g Visiting (stage.Unnamed r) t.course t.silent gs → IsNext g (machine_ordered t o) o gs
+    → Hunts true g Visiting (stage.Unnamed r) t.course t.silent gs → GoesTo g t o gs
 unnamed_turns g t o r gs by st hand purpose is v =
     go (address_for t.kept.reserved (value_of r)) (found_address t.kept.reserved (value_of r)) (least_open t.kept t.heard) refl
-    (subst (λ y. AfterMaskOn y t (course_by t o) r o) st.way (by.ordered.unnamed r is)) where
+    (subst (λ y. AfterMaskOn y t (course_by t o) r o) st.calm.way (by.ordered.unnamed r is)) where
       known : AreSeen t.kept t.heard gs
       known = known_as g t gs Visiting st purpose
 
@@ -448,16 +435,16 @@ unnamed_turns g t o r gs by st hand purpose is v =
       value = sym (ap value_of (w.stage_is.2 ∙ w.number) ∙ value_sought w.visited)
 
       go : (given_to : Option ℕ) → MatchOption given_to (HasRandom t.kept.reserved (value_of r) → ⊥) (λ a. Has t.kept.reserved (a, value_of r))
-          → (free : Option ℕ) → least_open t.kept t.heard ≡ free → AfterMaskBy t r given_to free o → IsNext g (machine_ordered t o) o gs
+          → (free : Option ℕ) → least_open t.kept t.heard ≡ free → AfterMaskBy t r given_to free o → GoesTo g t o gs
       go (Some a) has free least mask = choose (is_withheld t a (value_of r)) refl where
-        choose : (b : Bool) → is_withheld t a (value_of r) ≡ b → IsNext g (machine_ordered t o) o gs
+        choose : (b : Bool) → is_withheld t a (value_of r) ≡ b → GoesTo g t o gs
         choose false free =
             later_by g t o (stage.Unnamed r) (frame_of (Program (Some a))) gs st (subst (λ b. AfterReserved t a b o) free mask) is tt
         choose true withheld =
             absurd (let never : true ≡ false = sym (withheld_anothers t t.course.way a (value_of r) withheld)
             ∙ nobody_elses t.kept t.heard gs hand.holds hand.owned known.1 a (value_of r) has in cc)
-      go None none (Some a) least mask = subst (λ q. IsNext g (machine_ordered t q) q gs) (sym mask) (
-        calm_ordered g t (Reserve a (value_of r)) gs st,
+      go None none (Some a) least mask = subst (λ q. GoesTo g t q gs) (sym mask) (
+        st.calm,
         record {
           opened_is = v.opened_is;
           counted = v.counted;
@@ -478,24 +465,26 @@ unnamed_turns g t o r gs by st hand purpose is v =
 withdrawn_turns : (g : ℕ) (t : Machine) (o : Order) (r : SearchAddress) (a : ℕ) (gs : List Gear) → IsGivenBy t o → MisheardStands true g t gs
     → IsAtHand t.kept gs → IsUncontradicted t → t.course.purpose ≡ Visiting → stage_of t.trace ≡ stage.Withdrawn r a
     → Hunts true g Visiting (stage.Withdrawn r a) t.course t.silent gs
-    → IsNext g (machine_ordered t o) o gs
+    → GoesTo g t o gs
 withdrawn_turns g t o r a gs by st hand agreed purpose is v = go o by (by.ordered.found r a is) where
   w : Visits g Visiting (stage.Withdrawn r a) t.course.ascent t.course.number gs
   w = v.at
 
   keeps : KeepsPast g t.kept t.heard t.course t.silent gs
-  keeps = record {
-    opened_is = v.opened_is;
-    counted = v.counted;
-    low = v.low;
-    sought_are = v.sought_are;
-    bare = w.stage_is.1;
-    quiet = v.quiet;
-    visited = w.visited;
-    drawn = w.drawn;
-    past = w.stage_is.0;
-    known = known_as g t gs Visiting st purpose;
-  }
+  keeps = (
+    record {
+      opened_is = v.opened_is;
+      counted = v.counted;
+      low = v.low;
+      sought_are = v.sought_are;
+      bare = w.stage_is.1;
+      quiet = v.quiet;
+      visited = w.visited;
+      drawn = w.drawn;
+      past = w.stage_is.0;
+    },
+    known_as g t gs Visiting st purpose,
+  )
 
   value : w.visited ≡ value_of r
   value = sym w.stage_is.3
@@ -505,18 +494,18 @@ withdrawn_turns g t o r a gs by st hand agreed purpose is v = go o by (by.ordere
       own_by t.kept a (value_of r) gs hand.kept (known_as g t gs Visiting st purpose).0 (subst (λ m. HasOne m a gs) value w.stage_is.2)
       w.stage_is.4 (subst (λ m. m < MASK24) value w.drawn) fresh.0
 
-  go : (q : Order) → IsGivenBy t q → AfterFinding t a (value_of r) q → IsNext g (machine_ordered t q) q gs
+  go : (q : Order) → IsGivenBy t q → AfterFinding t a (value_of r) q → GoesTo g t q gs
   go (Put p f) by has =
-      hunts_on g t (Put p f) gs (calm_of g t gs st) (given.withdrawn_known t (Put p f) r a by is hand.kept.enrolled has) (ap (begins_at t) is) keeps
+      hunts_on g t (Put p f) gs st.calm (given.withdrawn_known t (Put p f) r a by is hand.kept.enrolled has) (ap (begins_at t) is) keeps
   go (Commit x) by has =
       let may : IsFresh t.kept.enrolled (a, value_of r) = subst (λ y. MayAdd t.kept y) has by.ordered.allowed.may in
-      subst (λ y. IsNext g (machine_ordered t (Commit y)) (Commit y) gs) (sym has) (calm_ordered g t (Enrol a (value_of r)) gs st, inr (keeps, own may))
+      subst (λ y. GoesTo g t (Commit y) gs) (sym has) (st.calm, inr (keeps, own may))
   go (Done e) by has = absurd has
   go (Halt why) by has = absurd (agreed (Queried a (value_of r)) (found_at g t gs (stage.Withdrawn r a) st is) has)
 
 visiting_turns : (g : ℕ) (t : Machine) (o : Order) (s : Stage) (gs : List Gear) → IsGivenBy t o → MisheardStands true g t gs → IsAtHand t.kept gs
     → IsUncontradicted t → IsNoEnrolment t.last → t.course.purpose ≡ Visiting → stage_of t.trace ≡ s → (s ≡ stage.Free → ⊥)
-    → Hunts true g Visiting s t.course t.silent gs → turn_of Visiting t.course.number s ≡ None → IsNext g (machine_ordered t o) o gs
+    → Hunts true g Visiting s t.course t.silent gs → turn_of Visiting t.course.number s ≡ None → GoesTo g t o gs
 visiting_turns g t o stage.Free gs by st hand agreed last purpose is running v over = absurd (running refl)
 visiting_turns g t o (stage.HighSent high) gs by st hand agreed last purpose is running v over = absurd (cc)
 visiting_turns g t o (stage.MiddleSent high middle) gs by st hand agreed last purpose is running v over = absurd (cc)
@@ -528,7 +517,7 @@ visiting_turns g t o (stage.Confirmed r a) gs by st hand agreed last purpose is 
 visiting_turns g t o (stage.Withdrawn r a) gs by st hand agreed last purpose is running v over = withdrawn_turns g t o r a gs by st hand agreed purpose is v
 visiting_turns g t o (stage.Unanswered r) gs by st hand agreed last purpose is running v over =
     failed_turns g t o (stage.Unanswered r) gs st hand.apart v refl refl v.at v.at.stage_is (known_as g t gs Visiting st purpose)
-    (given.begins_after t o (stage.Unanswered r) by is tt (found_at g t gs (stage.Unanswered r) st is) last (never_eight t.tries st.tries))
+    (given.begins_after t o (stage.Unanswered r) by is tt (found_at g t gs (stage.Unanswered r) st is) last (never_eight t.tries st.calm.untried))
     (ap (begins_at t) is ∙ ap (λ b. unanswered t r b (address_for t.kept.reserved (value_of r))) v.opened_is)
 visiting_turns g t o (stage.Inconclusive r other) gs by st hand agreed last purpose is running v over =
     failed_turns g t o (stage.Inconclusive r other) gs st hand.apart v refl refl v.at v.at.stage_is (known_as g t gs Visiting st purpose)
@@ -539,16 +528,16 @@ visiting_turns g t o _ gs by st hand agreed last purpose is running v over = abs
 
 passing_turns : (g : ℕ) (t : Machine) (o : Order) (s : Stage) (gs : List Gear) → IsGivenBy t o → MisheardStands true g t gs → IsNoEnrolment t.last
     → t.course.purpose ≡ PassingOver → stage_of t.trace ≡ s → (s ≡ stage.Free → ⊥) → Hunts true g PassingOver s t.course t.silent gs
-    → IsWhole (machine_ordered t o) → turn_of PassingOver t.course.number s ≡ None → IsNext g (machine_ordered t o) o gs
+    → IsWhole (machine_ordered t o) → turn_of PassingOver t.course.number s ≡ None → GoesTo g t o gs
 passing_turns g t o stage.Free gs by st last purpose is running v whole over = absurd (running refl)
 passing_turns g t o (stage.HighSent high) gs by st last purpose is running v whole over = absurd (cc)
 passing_turns g t o (stage.MiddleSent high middle) gs by st last purpose is running v whole over = absurd (cc)
 passing_turns g t o (stage.NumberSent r) gs by st last purpose is running v whole over = absurd (cc)
 passing_turns g t o (stage.PassedOver r) gs by st last purpose is running v whole over =
-    hunts_above g t o t.course w.visited gs (calm_of g t gs st)
+    hunts_above g t o t.course w.visited gs st.calm
     (begins_whole t o PassingOver (stage.PassedOver r) by purpose is (λ q e. cc) (λ e. cc) tt (λ f sends. (let none = sends.0 in cc))
-    (found_at g t gs (stage.PassedOver r) st is) last st.tries whole)
-    (ap (begins_at t) is) st.way v.opened_is v.counted (λ wanted_is. absurd (unwanted wanted_is)) v.low v.sought_are w.stage_is.1 w.drawn w.stage_is.0
+    (found_at g t gs (stage.PassedOver r) st is) last st.calm.untried whole)
+    (ap (begins_at t) is) st.calm.way v.opened_is v.counted (λ wanted_is. absurd (unwanted wanted_is)) v.low v.sought_are w.stage_is.1 w.drawn w.stage_is.0
     (known_as g t gs PassingOver st purpose)
   where
     w : Visits g PassingOver (stage.PassedOver r) t.course.ascent t.course.number gs
@@ -556,7 +545,7 @@ passing_turns g t o (stage.PassedOver r) gs by st last purpose is running v whol
 
     unwanted : is_wanted (gear_of gs g) ≡ true → ⊥
     unwanted wanted_is =
-        let more : w.visited < w.visited = w.stage_is.0.past w.visited (wanted.wants_by gs w.visited g st.there wanted_is w.stage_is.2) in
+        let more : w.visited < w.visited = w.stage_is.0.past w.visited (wanted.wants_by gs w.visited g st.calm.there wanted_is w.stage_is.2) in
         omega (arith, more)
 passing_turns g t o _ gs by st last purpose is running v whole over = absurd v.at.stage_is
 
@@ -564,16 +553,16 @@ passing_turns g t o _ gs by st last purpose is running v whole over = absurd v.a
 
 -- after a frame that was heard
 pub turned : (g : ℕ) (t : Machine) (o : Order) (gs : List Gear) → IsGivenBy t o → MisheardStands true g t gs → IsAtHand t.kept gs → IsUncontradicted t
-    → IsWhole (machine_ordered t o) → IsNoEnrolment t.last → (stage_of t.trace ≡ stage.Free → ⊥) → IsNext g (machine_ordered t o) o gs
+    → IsWhole (machine_ordered t o) → IsNoEnrolment t.last → (stage_of t.trace ≡ stage.Free → ⊥) → GoesTo g t o gs
 turned g t o gs by st hand agreed whole last running = turn (turn_of t.course.purpose t.course.number (stage_of t.trace)) refl where
   drew : (p : Purpose) → IsDraws p → t.course.purpose ≡ p → Draws p (stage_of t.trace) t.course t.silent gs → AreSeen t.kept t.heard gs
-      → turn_of p t.course.number (stage_of t.trace) ≡ None → IsNext g (machine_ordered t o) o gs
+      → turn_of p t.course.number (stage_of t.trace) ≡ None → GoesTo g t o gs
   drew p draws purpose at known over =
       let opened = draw_over p (stage_of t.trace) t.course.number gs draws at.draw over running in
       drawn_turns g t o p gs by st last opened (subst (λ s. Draws p s t.course t.silent gs) opened at) known
 
   go : (p : Purpose) → t.course.purpose ≡ p → At true g p (stage_of t.trace) t.kept t.heard t.course t.silent gs
-      → turn_of p t.course.number (stage_of t.trace) ≡ None → IsNext g (machine_ordered t o) o gs
+      → turn_of p t.course.number (stage_of t.trace) ≡ None → GoesTo g t o gs
   go (Asking a) purpose at over =
       census_turns g t o a (stage_of t.trace) gs by st hand agreed last purpose refl running at (known_as g t gs (Asking a) st purpose) whole over
   go Calling purpose at over = calling_turns g t o (stage_of t.trace) gs by st purpose refl running at over
@@ -583,11 +572,11 @@ turned g t o gs by st hand agreed whole last running = turn (turn_of t.course.pu
   go Visiting purpose at over = visiting_turns g t o (stage_of t.trace) gs by st hand agreed last purpose refl running at over
   go PassingOver purpose at over = passing_turns g t o (stage_of t.trace) gs by st last purpose refl running at whole over
   go (Closing e) purpose at over =
-      subst (λ q. IsNext g (machine_ordered t q) q gs)
-      (sym (close_ends t o e (stage_of t.trace) by purpose refl running at.stage_is st.trace.finding st.tries)) at.well
+      subst (λ q. GoesTo g t q gs)
+      (sym (close_ends t o e (stage_of t.trace) by purpose refl running at.stage_is st.trace.finding st.calm.untried)) at.well
   go Probing purpose at over = absurd at
   go (Resolving a) purpose at over = absurd at
 
-  turn : (q : Option Command) → turn_of t.course.purpose t.course.number (stage_of t.trace) ≡ q → IsNext g (machine_ordered t o) o gs
+  turn : (q : Option Command) → turn_of t.course.purpose t.course.number (stage_of t.trace) ≡ q → GoesTo g t o gs
   turn (Some c) e = turns_by g t o t.course.purpose (stage_of t.trace) c gs by st refl refl e
   turn None over = go t.course.purpose refl st.at over

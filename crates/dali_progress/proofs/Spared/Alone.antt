@@ -1,19 +1,11 @@
-use Rattle.std.proofs.Common.{◌≡◌, ℕ, ◌+◌, Bool, true, false, List, [], ◌∷◌, inr, refl, sym, ap, subst, ◌∙◌, zero, suc, Some, ◌&&◌}
-use Rattle.dali_frame.specs.declared.frames.{Answer.Answer, Forward.Forward}
-use Rattle.dali_special.specs.{Command.command_of, declared.command.Command.Command}
-use Rattle.dali_gear.specs.{Gear.Gear, Gear.draws_a_number, Row.takes, Row.one_after, Row.left_after, Row.row_after}
-use Rattle.dali_gear.specs.declared.row.Reach.{Reach, TheVariants.Everyone}
-use Rattle.dali_script.specs.{Due.due_after, Due.accepts, Due.frame_put, Records.Has, declared.orders.Input.Input, declared.orders.Order.Order}
-use Rattle.dali_controller.specs.Machine.{Machine}
-use Rattle.dali_events.specs.{Allowed.Allowed, Allowed.IsDue, Happens.happens, Wanted.gear_of, World.World, World.Controller, World.controller_at}
-use Rattle.dali_events.specs.{World.gear_at, declared.event.Event.Event, declared.used.Used.Used}
+use Rattle.dali_progress.proofs.Below.{◌≡◌, ℕ, ◌+◌, Bool, true, false, List, [], ◌∷◌, inr, refl, sym, ap, subst, ◌∙◌, zero, suc, Some, ◌&&◌, Answer, Forward}
+use Rattle.dali_progress.proofs.Below.{command_of, Command, Gear, draws_a_number, takes, one_after, left_after, row_after, Reach, Everyone, due_after, accepts}
+use Rattle.dali_progress.proofs.Below.{frame_put, Has, Input, Order, Machine, Allowed, IsDue, happens, gear_of, World, Controller, controller_at, gear_at}
+use Rattle.dali_progress.proofs.Below.{Event, Used, Waits, SiteState, world, site_logged, WasOrdered, records_now, IsAlone, IsOfRound, Succeeds, Rounds}
+use Rattle.dali_progress.proofs.Below.{most_frames, BySurvey, bare, IsOfCall, AreOfCalls, HasJustBegun, AsksInPeace, HavePower, AllAskInPeace}
 use Rattle.dali_events.specs.declared.event.Event.TheVariants as event
-use Rattle.dali_standing.specs.Seats.{Waits}
-use Rattle.dali_world.{specs.Site.SiteState, specs.Site.world, specs.Site.site_logged, specs.Site.WasOrdered, proofs.Logs.records_now}
-use Rattle.dali_progress.specs.Rounds.{IsAlone, IsOfRound, Succeeds, Rounds, most_frames, BySurvey, bare}
-use Rattle.dali_progress.specs.Spared.{IsOfCall, AreOfCalls, HasJustBegun, AsksInPeace, HavePower, AllAskInPeace}
-use Rattle.dali_progress.proofs.{Along.Runs, Along.runs_on, Logged.world_logged, Lone.due_of, Lone.Moment, Lone.lone_next, Lone.acts_by}
-use Rattle.dali_progress.proofs.Survey.{Goes.of_survey, Goes.argument, Goes.began_at, Goes.starts, Stands.Begun}
+use Rattle.dali_progress.proofs.{Along.{Runs, runs_on}, Logged.world_logged, Lone.{due_of, Moment, lone_next, acts_by}, Survey.Goes.{of_survey, argument}}
+use Rattle.dali_progress.proofs.{Survey.Goes.{began_at, starts}, Survey.Stands.Begun}
 
 -- A SURVEY THAT NOTHING DISTURBS asks in peace, if all used gear have power.
 

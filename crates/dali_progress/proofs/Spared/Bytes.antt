@@ -1,19 +1,13 @@
-use Rattle.std.proofs.Common.{◌≡◌, ℕ, ◌+◌, ◌*◌, ◌<◌, ◌≤◌, ◌⊎◌, inl, inr, Bool, true, false, List, [], ◌∷◌, refl, subst, arith, length, Option, Some, None, ◌==◌}
-use Rattle.std.proofs.Common.{◌-◌, zero, suc, if◌then◌else◌}
-use Rattle.std.specs.{List.AllByRecursion, Prelude.unwrap_or}
-use Rattle.dali_frame.specs.{Random.MASK24, declared.frames.Answer.Answer, declared.frames.Answer.TheVariants.Silence}
-use Rattle.dali_frame.specs.declared.{frames.Answer.TheVariants.Byte, frames.Answer.TheVariants.Damaged, numbers.SearchAddress.SearchAddress}
-use Rattle.dali_special.specs.Command.{IsSpelled}
-use Rattle.dali_special.specs.declared.command.Command.{Command, TheVariants.Initialise, TheVariants.Randomise}
-use Rattle.dali_special.specs.declared.command.Command.TheVariants.{Compare, Withdraw, SearchHigh, SearchMiddle, SearchLow, Program, QueryShort, RandomByte}
-use Rattle.dali_special.specs.declared.command.{Part.Part, Part.TheVariants.High, Part.TheVariants.Middle, Part.TheVariants.Low, Target.TheVariants.Unaddressed}
-use Rattle.dali_gear.specs.Gear.{Gear, answer, byte_at, has_short}
-use Rattle.dali_gear.specs.{Row.takes, Row.option_cons, Row.answers_of, declared.row.Reach.TheVariants.Everyone}
-use Rattle.dali_script.specs.Stages.{next_stage, queried, verified, hunted, byte_heard, bytes_heard, number_heard, doubted}
-use Rattle.dali_script.specs.declared.stage.Stage.{Stage}
+use Rattle.dali_progress.proofs.Below.{◌≡◌, ℕ, ◌+◌, ◌*◌, ◌<◌, ◌≤◌, ◌⊎◌, inl, inr, Bool, true, false, List, [], ◌∷◌, refl, subst, arith, length, Option, Some}
+use Rattle.dali_progress.proofs.Below.{None, ◌==◌, ◌-◌, zero, suc, if◌then◌else◌, AllByRecursion, unwrap_or, MASK24, Answer, Silence, Byte, Damaged}
+use Rattle.dali_progress.proofs.Below.{SearchAddress, IsSpelled, Command, Initialise, Randomise, Compare, Withdraw, SearchHigh, SearchMiddle, SearchLow}
+use Rattle.dali_progress.proofs.Below.{Program, QueryShort, RandomByte, Part, High, Middle, Low, Unaddressed, Gear, answer, byte_at, takes, option_cons}
+use Rattle.dali_progress.proofs.Below.{answers_of, Everyone, next_stage, queried, verified, byte_heard, bytes_heard, number_heard, doubted, Stage, Hears}
+use Rattle.dali_progress.proofs.Below.{IsDrawer, AreDrawn, gear_of, World, gear_at, IsPlain}
+use Rattle.dali_gear.specs.Gear.{has_short}
+use Rattle.dali_script.specs.Stages.{hunted}
 use Rattle.dali_script.specs.declared.stage.Stage.TheVariants as stage
-use Rattle.dali_events.specs.{Allowed.Hears, Runs.IsDrawer, Runs.AreDrawn, Wanted.gear_of, World.World, World.gear_at}
-use Rattle.dali_progress.{specs.Surveyed.IsPlain, proofs.Later.queried_by, proofs.Later.verified_by}
+use Rattle.dali_progress.proofs.Later.{queried_by, verified_by}
 
 -- WHAT GEAR TELL OF A RANDOM ADDRESS ARE BYTES, so what a machine reads from three of them is a number to FFFFFF.
 

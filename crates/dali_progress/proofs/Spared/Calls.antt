@@ -1,29 +1,19 @@
-use Rattle.std.proofs.Common.{◌≡◌, ℕ, ◌+◌, ◌<◌, ◌≤◌, ◌⊎◌, inl, inr, Bool, true, false, List, [], ◌∷◌, refl, sym, ap, subst, ◌∙◌, arith, zero, suc, Option, Some}
-use Rattle.std.proofs.Common.{None, get_or, get_or-set_same, get_or-set_other, map, ◌==◌, ◌&&◌, if◌then◌else◌}
-use Rattle.std.{proofs.lemmas.Bool.Decides.nat_tests, specs.List.AllByRecursion, specs.Option.option_map}
-use Rattle.dali_frame.specs.declared.frames.{Answer.Answer, Answer.TheVariants.Silence, Forward.Forward}
-use Rattle.dali_special.specs.Command.{command_of}
-use Rattle.dali_special.specs.declared.command.{Command.Command, Command.TheVariants.RandomByte, Part.TheVariants.High}
-use Rattle.dali_script.specs.{Due.frame_put, Records.Kept, Records.without_records, declared.block.Block.Block, declared.orders.Input.Input}
-use Rattle.dali_script.{specs.declared.orders.Order.Order, specs.declared.records.Record.Record, proofs.Lists.block_stays}
+use Rattle.dali_progress.proofs.Below.{◌≡◌, ℕ, ◌+◌, ◌<◌, ◌≤◌, ◌⊎◌, inl, inr, Bool, true, false, List, [], ◌∷◌, refl, sym, ap, subst, ◌∙◌, arith, zero, suc}
+use Rattle.dali_progress.proofs.Below.{Option, Some, None, get_or, get_or-set_same, get_or-set_other, map, ◌==◌, ◌&&◌, if◌then◌else◌, nat_tests, AllByRecursion}
+use Rattle.dali_progress.proofs.Below.{option_map, Answer, Silence, Forward, command_of, Command, RandomByte, High, frame_put, Kept, without_records, Block}
+use Rattle.dali_progress.proofs.Below.{Input, Order, Record, block_stays, Machine, at_first, IsGiven, machine_after, Allowed, IsActed, IsSent, IsDown, IsArc}
+use Rattle.dali_progress.proofs.Below.{IsDue, happens, controller_acted, told_of, told_sent, told_destroyed, told_lapsed, owner_told, trace_running, is_arc}
+use Rattle.dali_progress.proofs.Below.{gone_down, come_up, kept_after, with_outstanding, Plan, IsPlan, block_at, no_block, World, Controller, controller_at}
+use Rattle.dali_progress.proofs.Below.{controllers_changed, controller_begun, nobody, Event, are_drawn, draws_after, Waits, MayAnswer, LeavesWhole}
+use Rattle.dali_progress.proofs.Below.{ReservesUsed, machine_in, machines_at, machines_after, SiteState, opened_site, world, machines, machine_at, site_logged}
+use Rattle.dali_progress.proofs.Below.{IsActRefused, changed_at, none_set, some_set, by_place, site_after, IsOfCall, AreOfCalls, HasJustBegun, IsUsedOf}
+use Rattle.dali_progress.proofs.Below.{BeginsBySurveys, asks_first, is_silence, silences_after, IsHeardInTime, HearsUsed}
 use Rattle.dali_script.specs.declared.orders.Input.TheVariants as input
-use Rattle.dali_controller.specs.{Machine.Machine, Machine.at_first, Orders.IsGiven, Orders.machine_after}
-use Rattle.dali_events.specs.Allowed.{Allowed, IsActed, IsSent, IsDown, IsArc, IsDue}
-use Rattle.dali_events.specs.Happens.{happens, controller_acted, told_of, told_sent, told_destroyed, told_lapsed, owner_told, trace_running, is_arc, gone_down}
-use Rattle.dali_events.specs.{Happens.come_up, Happens.kept_after, Happens.with_outstanding, Plan.Plan, Plan.IsPlan, Plan.block_at, Plan.no_block}
-use Rattle.dali_events.specs.World.{World, Controller, controller_at, controllers_changed, controller_begun, nobody}
-use Rattle.dali_events.{specs.declared.event.Event.Event, proofs.Invariant.Drawn.are_drawn, proofs.Invariant.Drawn.draws_after}
 use Rattle.dali_events.specs.declared.event.Event.TheVariants as event
-use Rattle.dali_standing.specs.Seats.{Waits, MayAnswer, LeavesWhole, ReservesUsed}
-use Rattle.dali_standing.specs.Standing.{machine_in, machines_at, machines_after}
 use Rattle.dali_standing.specs.declared.refusal.Refusal.TheVariants as refusal
-use Rattle.dali_world.specs.Site.{SiteState, opened_site, world, machines, machine_at, site_logged, IsActRefused}
-use Rattle.dali_world.proofs.Rolls.{changed_at, none_set, some_set, by_place}
-use Rattle.dali_progress.specs.{Rounds.site_after, Spared.IsOfCall}
-use Rattle.dali_progress.specs.Spared.{AreOfCalls, HasJustBegun, IsUsedOf, BeginsBySurveys, asks_first, is_silence, silences_after, IsHeardInTime, HearsUsed}
-use Rattle.dali_progress.proofs.{Logged.world_logged, Logged.machines_logged, Logged.some_within, Lone.acted_there}
-use Rattle.dali_progress.proofs.Spared.Bytes.{AreSmall, drawn_small, IsByteOf, byte_heard_of}
-use Rattle.dali_progress.proofs.Spared.Lives.{IsWellHeard, IsFair, IsFewAt, Lives, lives_first, lives_told, lives_more, counted_asked, lives_acted, leaves_used}
+use Rattle.dali_progress.proofs.{Logged.{world_logged, machines_logged, some_within}, Lone.acted_there, Spared.Bytes.{AreSmall, drawn_small, IsByteOf}}
+use Rattle.dali_progress.proofs.{Spared.Bytes.byte_heard_of, Spared.Lives.{IsWellHeard, IsFair, IsFewAt, Lives, lives_first, lives_told, lives_more}}
+use Rattle.dali_progress.proofs.Spared.Lives.{counted_asked, lives_acted, leaves_used}
 
 -- EACH EVENT THAT CALLS ADD goes on with the life of a controller that surveys and hears the used gear.
 

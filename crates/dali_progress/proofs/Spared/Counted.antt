@@ -1,19 +1,12 @@
-use Rattle.std.proofs.Common.{◌≡◌, ℕ, ◌+◌, ◌≤◌, ◌⊎◌, inl, inr, Bool, true, false, [], refl, sym, ap, subst, ◌∙◌, arith, Option, Some, None, ◌==◌, nat_lt}
-use Rattle.std.proofs.Common.{if◌then◌else◌}
-use Rattle.std.proofs.lemmas.Bool.Decides.{nat_tests}
-use Rattle.dali_frame.specs.declared.frames.{Answer.Answer, Answer.TheVariants.Silence, Answer.TheVariants.Byte, Answer.TheVariants.Damaged, Forward.Forward}
-use Rattle.dali_script.specs.{Due.due_after, Due.accepts, Due.frame_put, Due.record_ordered, Findings.finding_of, Stages.stage_of, Stages.byte_heard}
-use Rattle.dali_script.specs.{Stages.finding_at, declared.orders.Input.Input, declared.orders.Order.Order, declared.orders.Order.TheVariants.Put}
-use Rattle.dali_script.specs.declared.{orders.Order.TheVariants.Commit, records.Record.Record, records.Record.TheVariants.Enrol, stage.Stage.Stage}
-use Rattle.dali_script.proofs.Transactions.{stage_none}
+use Rattle.dali_progress.proofs.Below.{◌≡◌, ℕ, ◌+◌, ◌≤◌, ◌⊎◌, inl, inr, Bool, true, false, [], refl, sym, ap, subst, ◌∙◌, arith, Option, Some, None, ◌==◌}
+use Rattle.dali_progress.proofs.Below.{nat_lt, if◌then◌else◌, nat_tests, Answer, Silence, Byte, Damaged, Forward, due_after, accepts, frame_put, record_ordered}
+use Rattle.dali_progress.proofs.Below.{finding_of, stage_of, byte_heard, finding_at, Input, Order, Put, Commit, Record, Enrol, Stage, stage_none, Machine}
+use Rattle.dali_progress.proofs.Below.{machine_told, machine_heard, machine_committed, asked_at, asked_after, asked_after_silence, next_course, course_by}
+use Rattle.dali_progress.proofs.Below.{begins_at, at_rest, asked_once, IsGiven, IsAllowed, machine_after, machine_ordered, asked_by, IsWhole, Purpose, Asking}
 use Rattle.dali_script.specs.declared.orders.Input.TheVariants as input
 use Rattle.dali_script.specs.declared.stage.Stage.TheVariants as stage
-use Rattle.dali_controller.specs.Machine.{Machine, machine_told, machine_heard, machine_committed, asked_at, asked_after, asked_after_silence}
-use Rattle.dali_controller.specs.Next.{next_course, course_by, begins_at, at_rest, asked_once}
-use Rattle.dali_controller.specs.Orders.{IsGiven, IsAllowed, machine_after, machine_ordered, asked_by}
-use Rattle.dali_controller.specs.{Whole.IsWhole, declared.purpose.Purpose.Purpose, declared.purpose.Purpose.TheVariants.Asking}
-use Rattle.dali_progress.proofs.Census.{Asked.by_kind, Coming.IsEnded, Coming.Hearing, Coming.hearing_of, Coming.none_found, Coming.no_record, Coming.over_ends}
-use Rattle.dali_progress.proofs.{Census.Course.put_is, Later.IsUnasked, Later.course_stays}
+use Rattle.dali_progress.proofs.{Census.Asked.by_kind, Census.Coming.{IsEnded, Hearing, hearing_of, none_found, no_record, over_ends}, Census.Course.put_is}
+use Rattle.dali_progress.proofs.Later.{IsUnasked, course_stays}
 
 -- HOW OFTEN IN A ROW the address that is asked was silent is at most how often it was silent at all, by a count that only grows.
 

@@ -1,30 +1,19 @@
-use Rattle.std.proofs.Common.{◌≡◌, ℕ, ◌+◌, ◌<◌, ◌≤◌, ◌⊎◌, inl, inr, Bool, true, false, List, [], ◌∷◌, refl, sym, ap, subst, ◌∙◌, arith, Option, Some, None}
-use Rattle.std.proofs.Common.{◌==◌, if◌then◌else◌}
-use Rattle.dali_frame.specs.{Priority.LATER, declared.frames.Answer.Answer, declared.frames.Answer.TheVariants.Silence, declared.frames.Forward.Forward}
-use Rattle.dali_special.specs.{Command.command_of, declared.command.Command.TheVariants.RandomByte, declared.command.Part.TheVariants.High}
-use Rattle.dali_special.{specs.declared.command.Part.TheVariants.Middle, specs.declared.command.Part.TheVariants.Low, proofs.Table.read_spelled}
-use Rattle.dali_script.specs.{Due.due_after, Due.accepts, Due.frame_put, Due.record_ordered, Records.Kept, Records.Has, Records.InBlock, Stages.stage_of}
-use Rattle.dali_script.specs.{Stages.next_stage, Stages.bytes_heard, Stages.number_heard, declared.block.Block.Block, declared.orders.Input.Input}
-use Rattle.dali_script.specs.declared.orders.Order.{Order, TheVariants.Put, TheVariants.Commit, TheVariants.Done, TheVariants.Halt}
-use Rattle.dali_script.specs.declared.records.Record.{Record, TheVariants.Reserve}
-use Rattle.dali_script.proofs.{Lists.block_stays, Transactions.stage_more, Transactions.stage_none}
+use Rattle.dali_progress.proofs.Below.{◌≡◌, ℕ, ◌+◌, ◌<◌, ◌≤◌, ◌⊎◌, inl, inr, Bool, true, false, List, [], ◌∷◌, refl, sym, ap, subst, ◌∙◌, arith, Option, Some}
+use Rattle.dali_progress.proofs.Below.{None, ◌==◌, if◌then◌else◌, LATER, Answer, Silence, Forward, command_of, RandomByte, High, Middle, Low, read_spelled}
+use Rattle.dali_progress.proofs.Below.{due_after, accepts, frame_put, record_ordered, Kept, Has, InBlock, stage_of, next_stage, bytes_heard, number_heard}
+use Rattle.dali_progress.proofs.Below.{Block, Input, Order, Put, Commit, Done, Halt, Record, Reserve, block_stays, stage_more, stage_none, Machine, at_first}
+use Rattle.dali_progress.proofs.Below.{machine_told, machine_heard, machine_committed, IsGiven, MayCommit, machine_after, machine_ordered, IsWhole, IsReady}
+use Rattle.dali_progress.proofs.Below.{IsUnstarted, IsOpenedOn, Pending, Sends, Opening, Asking, Fresh, Surveying, IsDue, IsCommit, controller_acted, entry}
+use Rattle.dali_progress.proofs.Below.{used_shorts, Controller, Used, ReservesUsed, BeginsBySurvey, AreWhole, FallsSilent, WasSilent, Step, IsTaken, IsCourse}
+use Rattle.dali_progress.proofs.Below.{ArePlain, stage_told, IsPlain, IsAccounted}
+use Rattle.dali_controller.specs.Whole.{Knows}
 use Rattle.dali_script.specs.declared.orders.Due.TheVariants as due
 use Rattle.dali_script.specs.declared.orders.Input.TheVariants as input
 use Rattle.dali_script.specs.declared.stage.Stage.TheVariants as stage
-use Rattle.dali_controller.specs.Machine.{Machine, at_first, machine_told, machine_heard, machine_committed}
-use Rattle.dali_controller.specs.{Orders.IsGiven, Orders.MayCommit, Orders.machine_after, Orders.machine_ordered, Whole.IsWhole, Whole.IsReady}
-use Rattle.dali_controller.specs.{Whole.IsUnstarted, Whole.IsOpenedOn, Whole.Knows, Whole.Pending, Whole.Sends, declared.purpose.Purpose.TheVariants.Opening}
-use Rattle.dali_controller.specs.declared.{purpose.Purpose.TheVariants.Asking, way.Way.TheVariants.Fresh, way.Way.TheVariants.Surveying}
-use Rattle.dali_events.specs.Allowed.{IsDue, IsCommit}
-use Rattle.dali_events.specs.{Happens.controller_acted, Happens.entry, Used.used_shorts, World.Controller, declared.used.Used.Used}
-use Rattle.dali_standing.specs.Seats.{ReservesUsed}
-use Rattle.dali_progress.specs.Census.{BeginsBySurvey, AreWhole, FallsSilent, WasSilent}
-use Rattle.dali_progress.specs.Surveyed.{Step, IsTaken, IsCourse, ArePlain, stage_told, IsPlain, IsAccounted}
-use Rattle.dali_progress.proofs.Accounted.{accounted_stays, unreserved, told_keeps}
-use Rattle.dali_progress.proofs.Census.Asked.{Asks, asks_of, self, sending_of}
-use Rattle.dali_progress.proofs.Census.Coming.{IsToCome, IsEnded, Watched, no_reservation, counting_ready, storing_of, unreserved_on, over_ends}
-use Rattle.dali_progress.proofs.{Census.Others.ordered_way, Census.Silent.IsLooked, Census.Silent.watched_looked, Spared.Bytes.IsByteOf}
-use Rattle.dali_progress.proofs.Spared.{Bytes.IsRead, Bytes.read_plain, Bytes.next_read, Counted.IsCounted, Counted.counted_more, Counted.counted_on}
+use Rattle.dali_progress.proofs.{Accounted.{accounted_stays, unreserved, told_keeps}, Census.Asked.{Asks, asks_of, self, sending_of}, Census.Coming.IsToCome}
+use Rattle.dali_progress.proofs.Census.Coming.{IsEnded, Watched, no_reservation, counting_ready, storing_of, unreserved_on, over_ends}
+use Rattle.dali_progress.proofs.{Census.Course.ordered_way, Census.Silent.{IsLooked, watched_looked}, Spared.Bytes.{IsByteOf, IsRead, read_plain, next_read}}
+use Rattle.dali_progress.proofs.Spared.Counted.{IsCounted, counted_more, counted_on}
 
 -- THE LIFE OF A CONTROLLER since it began, by what its machine was told and ordered.
 

@@ -1,28 +1,16 @@
-use Rattle.std.proofs.Common.{◌≡◌, ℕ, ◌+◌, ◌*◌, ◌≤◌, Bool, false, suc, List, [], ◌∷◌, ◌++◌, refl, sym, subst, ◌∙◌, arith, Option, Some, None, inl}
-use Rattle.std.specs.List.{count_by}
-use Rattle.dali_frame.specs.declared.{frames.Answer.Answer, frames.Forward.Forward, numbers.SearchAddress.SearchAddress}
-use Rattle.dali_special.specs.Command.{command_of}
-use Rattle.dali_gear.specs.{Gear.Gear, Row.row_after, Row.answers_of, Row.heard_of, declared.row.Reach.TheVariants.Everyone}
-use Rattle.dali_script.specs.{Records.Kept, Records.IsKept, Scripts.IsLawful, Stages.IsTrace, Stages.stage_of, Stages.next_stage}
-use Rattle.dali_script.specs.declared.orders.{End.End, Input.Input, Order.Order, Order.TheVariants.Put, Order.TheVariants.Commit, Order.TheVariants.Done}
-use Rattle.dali_script.{specs.declared.orders.Order.TheVariants.Halt, specs.declared.stage.Stage.Stage, proofs.Found.trace_more, proofs.Transactions.stage_more}
+use Rattle.dali_progress.proofs.Below.{◌≡◌, ℕ, ◌+◌, ◌*◌, ◌≤◌, Bool, false, suc, List, [], ◌∷◌, ◌++◌, refl, sym, subst, ◌∙◌, arith, Option, Some, None, inl}
+use Rattle.dali_progress.proofs.Below.{count_by, Answer, Forward, SearchAddress, command_of, Gear, row_after, answers_of, heard_of, Everyone, Kept, IsKept}
+use Rattle.dali_progress.proofs.Below.{IsLawful, IsTrace, stage_of, next_stage, End, Input, Order, Put, Commit, Done, Halt, Stage, trace_more, stage_more}
+use Rattle.dali_progress.proofs.Below.{Search, Course, Machine, machine_heard, machine_told, silent_after, at_first, next_course, beginning, machine_ordered}
+use Rattle.dali_progress.proofs.Below.{machine_after, Purpose, Opening, Probing, Visiting, Closing, IsGivenBy, Allowed, entry, is_bare, World, controller_at}
+use Rattle.dali_progress.proofs.Below.{SiteState, world, AreTabled, EndsWell, NamesAll, IsTrueEnd, table_at, Succeeds, HasEnded, ByStart, bare, BeginsAlone}
 use Rattle.dali_script.specs.declared.orders.Input.TheVariants as input
 use Rattle.dali_script.specs.declared.stage.Stage.TheVariants as stage
-use Rattle.dali_search.specs.Least.{Search}
-use Rattle.dali_controller.specs.{Course.Course, Machine.Machine, Machine.machine_heard, Machine.machine_told, Machine.silent_after, Machine.at_first}
-use Rattle.dali_controller.specs.{Next.next_course, Next.beginning, Orders.machine_ordered, Orders.machine_after, declared.purpose.Purpose.Purpose}
-use Rattle.dali_controller.specs.declared.purpose.Purpose.TheVariants.{Opening, Probing, Visiting, Closing}
-use Rattle.dali_controller.proofs.Given.{IsGivenBy}
-use Rattle.dali_events.specs.{Allowed.Allowed, Happens.entry, Wanted.is_bare, World.World, World.controller_at}
 use Rattle.dali_events.specs.declared.event.Event.TheVariants as event
-use Rattle.dali_world.specs.Site.{SiteState, world}
-use Rattle.dali_progress.specs.Ends.{AreTabled, EndsWell, NamesAll, IsTrueEnd, table_at}
-use Rattle.dali_progress.specs.Rounds.{Succeeds, HasEnded, ByStart, bare, BeginsAlone}
 use Rattle.dali_progress.proofs.Along.{Measure, Goes, slack_at, Argument, Runs, held_ended, runs_first, with_left, HoldsBy, holds_next, acts_from}
-use Rattle.dali_progress.proofs.Both.{with_kept, not_free, IsKnown, taken_of, no_tries, put_no_enrolment, lawful_now}
-use Rattle.dali_progress.proofs.{Frames.Seeks, Frames.at_sent, Logged.kept_now, Lone.lone_sent, Stands.search_frames, Stands.to_come, Stands.At, Stands.Stands}
-use Rattle.dali_progress.proofs.Start.Turns.{IsUndisturbed, IsNext, turned, started, started_begins, committed, committed_begins}
-use Rattle.dali_progress.proofs.Tables.{IsTabledTo, at_tabled}
+use Rattle.dali_progress.proofs.{Both.{with_kept, not_free, IsKnown, taken_of, no_tries, put_no_enrolment, lawful_now}, Frames.{Seeks, at_sent}}
+use Rattle.dali_progress.proofs.{Logged.kept_now, Lone.lone_sent, Stands.{search_frames, to_come, At, Stands}, Start.Turns.{IsUndisturbed, IsNext, turned}}
+use Rattle.dali_progress.proofs.{Start.Turns.{started, started_begins, committed, committed_begins}, Tables.{IsTabledTo, at_tabled}}
 
 -- COMMISSIONING GOES ON, event by event.
 

@@ -1,32 +1,17 @@
-use Rattle.std.proofs.Common.{◌≡◌, ℕ, ◌≤◌, inl, inr, Bool, true, false, List, [], ◌∷◌, ◌++◌, refl, sym, ap, subst, ◌∙◌, arith, length, Option, Some, None, ◌==◌}
-use Rattle.std.proofs.Common.{if◌then◌else◌}
-use Rattle.std.specs.List.{count_by}
-use Rattle.dali_frame.specs.declared.{frames.Answer.Answer, frames.Forward.Forward, numbers.SearchAddress.SearchAddress}
-use Rattle.dali_special.specs.{Command.command_of, declared.command.Command.Command}
-use Rattle.dali_gear.specs.{Gear.Gear, Row.row_after, Row.row_left, Row.draws_needed, declared.row.Reach.TheVariants.Everyone}
-use Rattle.dali_script.specs.{Due.frame_put, Due.record_ordered, Records.Kept, Stages.stage_of, Stages.next_stage}
-use Rattle.dali_script.specs.declared.orders.{End.TheVariants.GaveUp, Input.Input, Order.Order}
-use Rattle.dali_script.specs.declared.orders.Order.TheVariants.{Put, Commit, Done, Halt}
-use Rattle.dali_script.specs.declared.{records.Record.Record, records.Record.TheVariants.Reserve, records.Record.TheVariants.Enrol, stage.Stage.Stage}
-use Rattle.dali_script.proofs.Transactions.{stage_more, stage_none}
+use Rattle.dali_progress.proofs.Below.{◌≡◌, ℕ, ◌≤◌, inl, inr, Bool, true, false, List, [], ◌∷◌, ◌++◌, refl, sym, ap, subst, ◌∙◌, arith, length, Option, Some}
+use Rattle.dali_progress.proofs.Below.{None, ◌==◌, if◌then◌else◌, count_by, Answer, Forward, SearchAddress, command_of, Command, Gear, row_after, row_left}
+use Rattle.dali_progress.proofs.Below.{draws_needed, Everyone, frame_put, record_ordered, Kept, stage_of, next_stage, GaveUp, Input, Order, Put, Commit, Done}
+use Rattle.dali_progress.proofs.Below.{Halt, Record, Reserve, Enrol, Stage, stage_more, stage_none, Search, Again, Found, Nobody, Course, searching_first}
+use Rattle.dali_progress.proofs.Below.{closing, after_step, Machine, machine_heard, machine_committed, machine_told, next_course, begins_at, course_on}
+use Rattle.dali_progress.proofs.Below.{goes_on_to, at_rest, asked_once, silenced_on, most_silent, unanswered, ungiven, machine_ordered, machine_after}
+use Rattle.dali_progress.proofs.Below.{IsAllowed, Purpose, Opening, Probing, Visiting, Closing, Hunting, Fresh, given_by, entry, block_at, is_bare, World}
+use Rattle.dali_progress.proofs.Below.{controller_at, informed_by, world, Succeeds}
+use Rattle.dali_search.specs.declared.step.Step.{Step}
 use Rattle.dali_script.specs.declared.orders.Input.TheVariants as input
 use Rattle.dali_script.specs.declared.stage.Stage.TheVariants as stage
-use Rattle.dali_search.specs.{Least.Search, declared.step.Step.Step}
-use Rattle.dali_search.specs.declared.step.Step.TheVariants.{Again, Found, Nobody}
-use Rattle.dali_controller.specs.Course.{Course, searching_first, closing, after_step}
-use Rattle.dali_controller.specs.Machine.{Machine, machine_heard, machine_committed, machine_told}
-use Rattle.dali_controller.specs.Next.{next_course, begins_at, course_on, goes_on_to, at_rest, asked_once, silenced_on, most_silent, unanswered, ungiven}
-use Rattle.dali_controller.specs.{Orders.machine_ordered, Orders.machine_after, Orders.IsAllowed, declared.purpose.Purpose.Purpose}
-use Rattle.dali_controller.specs.declared.purpose.Purpose.TheVariants.{Opening, Probing, Visiting, Closing, Hunting}
-use Rattle.dali_controller.{specs.declared.way.Way.TheVariants.Fresh, proofs.Given.given_by}
-use Rattle.dali_events.specs.{Happens.entry, Plan.block_at, Wanted.is_bare, World.World, World.controller_at}
-use Rattle.dali_standing.specs.Seats.{informed_by}
-use Rattle.dali_world.specs.Site.{world}
-use Rattle.dali_progress.specs.Rounds.{Succeeds}
 use Rattle.dali_progress.proofs.Both.{none_apart, never_draws, left_same, opening_none, opening_draws, draws_few, is_complete, with_kept, not_failed}
-use Rattle.dali_progress.proofs.{Drawing.Draws, Gives.bare_fewer, Gives.frame_gives, Later.unasked_but, Later.stays_at, Lone.due_of, Lone.IsDueOf, Lone.Moment}
-use Rattle.dali_progress.proofs.{Lone.acts_by, Stands.CloseStage, Stands.At, Stands.Stands, Stands.Sends}
-use Rattle.dali_progress.proofs.Start.{Goes.Hears, Goes.Holds, Goes.of_start, Turns.IsNext, Turns.CommitsTo, Turns.goes_on_anew}
+use Rattle.dali_progress.proofs.{Drawing.Draws, Gives.{bare_fewer, frame_gives}, Later.{unasked_but, stays_at}, Lone.{due_of, IsDueOf, Moment, acts_by}}
+use Rattle.dali_progress.proofs.{Stands.{CloseStage, At, Stands, Sends}, Start.Goes.{Hears, Holds, of_start}, Start.Turns.{IsNext, CommitsTo, goes_on_anew}}
 
 -- THE NUMBERS THAT GEAR DRAW: if there is one for each gear at the start, they are never spent. Gear draw once, at the
 -- last frame of the one opening.

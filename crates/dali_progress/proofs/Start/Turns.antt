@@ -1,37 +1,24 @@
-use Rattle.std.proofs.Common.{◌≡◌, ℕ, ◌+◌, ◌*◌, ◌-◌, ◌<◌, ◌≤◌, ◌⊎◌, inl, inr, Bool, true, false, zero, suc, List, [], ◌∷◌, ◌++◌, refl, sym, ap, subst, ◌∙◌}
-use Rattle.std.proofs.Common.{arith, length, length-append, nat_lt, Some, None, ◌==◌, if◌then◌else◌}
-use Rattle.std.{proofs.lemmas.Bool.Decides.nat_tests, specs.List.count_by}
-use Rattle.dali_frame.specs.{Priority.LATER, Random.value_of, Random.MASK24, declared.numbers.SearchAddress.SearchAddress}
-use Rattle.dali_special.specs.Command.{command_of, frame_of, IsSpelled}
-use Rattle.dali_special.{specs.declared.command.Command.Command, specs.declared.command.Command.TheVariants.Program, proofs.Table.read_written}
-use Rattle.dali_gear.specs.Gear.{Gear, fresh}
-use Rattle.dali_script.specs.Findings.{finding_of}
-use Rattle.dali_script.specs.Records.{Assignment, Kept, Has, HasRandom, IsKept, IsMap, with_record}
-use Rattle.dali_script.specs.{Stages.IsTrace, Stages.stage_of, Stages.finding_at, declared.orders.End.End, declared.orders.End.TheVariants.BlockFull}
-use Rattle.dali_script.specs.declared.orders.Order.{Order, TheVariants.Put, TheVariants.Commit, TheVariants.Done, TheVariants.Halt}
-use Rattle.dali_script.specs.declared.{records.Record.Record, records.Record.TheVariants.Reserve, records.Record.TheVariants.Enrol, stage.Stage.Stage}
-use Rattle.dali_script.proofs.{Found.trace_none, Lists.has_cases, Members.has_left, Members.same_member, Transactions.stage_none}
+use Rattle.dali_progress.proofs.Below.{◌≡◌, ℕ, ◌+◌, ◌*◌, ◌-◌, ◌<◌, ◌≤◌, ◌⊎◌, inl, inr, Bool, true, false, zero, suc, List, [], ◌∷◌, ◌++◌, refl, sym, ap, subst}
+use Rattle.dali_progress.proofs.Below.{◌∙◌, arith, length, length-append, nat_lt, Some, None, ◌==◌, if◌then◌else◌, nat_tests, count_by, LATER, value_of, MASK24}
+use Rattle.dali_progress.proofs.Below.{SearchAddress, command_of, frame_of, IsSpelled, Command, Program, read_written, Gear, fresh, finding_of, Assignment}
+use Rattle.dali_progress.proofs.Below.{Kept, Has, HasRandom, IsKept, IsMap, with_record, IsTrace, stage_of, finding_at, End, BlockFull, Order, Put, Commit}
+use Rattle.dali_progress.proofs.Below.{Done, Halt, Record, Reserve, Enrol, Stage, trace_none, has_cases, has_left, same_member, stage_none, Search, Agrees}
+use Rattle.dali_progress.proofs.Below.{Says, NumberOf, lowest, highest, answered, step_between, IsNarrowing, Again, Found, Nobody, agrees_more, Course}
+use Rattle.dali_progress.proofs.Below.{first_of, turn_of, is_yes, closing_of, searching_anew, visiting, probed, after_step, closing as closing_by}
+use Rattle.dali_progress.proofs.Below.{opening as opening_of, unfinished_at, unfinished_among, visit_or_opening, going_on, searching_first, searching_on}
+use Rattle.dali_progress.proofs.Below.{Machine, next_course, begins_at, at_rest, beginning, goes_on_to, ungiven, machine_ordered, Contradicts, AfterFinding}
+use Rattle.dali_progress.proofs.Below.{Purpose, Opening, Probing, Visiting, Closing, Fresh, keeps_fresh, goes_on_fresh, IsGivenBy, IsNoEnrolment, HasShort}
+use Rattle.dali_progress.proofs.Below.{is_wanted, wants, is_bare, OfPowered, IsOpened, NoneNamed, EndsWell, AreTabled}
+use Rattle.dali_search.specs.declared.step.Step.{Step}
 use Rattle.dali_script.specs.declared.stage.Stage.TheVariants as stage
-use Rattle.dali_search.specs.Least.{Search, Agrees, Says, NumberOf, lowest, highest, answered, step_between}
-use Rattle.dali_search.specs.{Narrowing.IsNarrowing, declared.step.Step.Step, declared.step.Step.TheVariants.Again, declared.step.Step.TheVariants.Found}
-use Rattle.dali_search.{specs.declared.step.Step.TheVariants.Nobody, proofs.Agreement.agrees_more}
 use Rattle.dali_search.proofs.Answered as searching
-use Rattle.dali_controller.specs.Course.{Course, first_of, turn_of, is_yes, closing_of, searching_anew, visiting, probed, after_step, closing as closing_by}
-use Rattle.dali_controller.specs.Course.{opening as opening_of, unfinished_at, unfinished_among, visit_or_opening, going_on, searching_first, searching_on}
-use Rattle.dali_controller.specs.{Machine.Machine, Next.next_course, Next.begins_at, Next.at_rest, Next.beginning, Next.goes_on_to, Next.ungiven}
-use Rattle.dali_controller.specs.Orders.{machine_ordered, Contradicts, AfterFinding}
-use Rattle.dali_controller.specs.declared.purpose.Purpose.{Purpose, TheVariants.Opening, TheVariants.Probing, TheVariants.Visiting, TheVariants.Closing}
-use Rattle.dali_controller.specs.declared.way.Way.TheVariants.{Fresh}
-use Rattle.dali_controller.proofs.{Courses.keeps_fresh, Courses.goes_on_fresh, Given.IsGivenBy, Given.IsNoEnrolment}
 use Rattle.dali_controller.proofs.Given as given
-use Rattle.dali_events.specs.{Searching.HasShort, Wanted.is_wanted, Wanted.wants, Wanted.is_bare, Wanted.OfPowered, Wanted.IsOpened, Wanted.NoneNamed}
 use Rattle.dali_events.proofs.Search.Opened as opening
 use Rattle.dali_events.proofs.Search.Wanted as wanted
-use Rattle.dali_progress.{specs.Ends.EndsWell, specs.Ends.AreTabled, proofs.Both.with_kept, proofs.Both.never_eight}
-use Rattle.dali_progress.proofs.Both.{drawn_number, has_address, entry_last, visits_first, frames_reserved, enrolled_begins, reserved_begins, no_enrolment_yet}
-use Rattle.dali_progress.proofs.{Both.entry_twice, Frames.nobody_short, Later.IsUnasked, Later.later_leaves, Later.turn_unasked, Stands.to_come}
-use Rattle.dali_progress.proofs.Stands.{search_frames, probe_frames, Opens, Probes, VisitFrames, Visits, Leaves, VisitsAt, Closes, At, IsWithin, Stands, Sends}
-use Rattle.dali_progress.proofs.Tables.{tabled_over}
+use Rattle.dali_progress.proofs.Both.{with_kept, never_eight, drawn_number, has_address, entry_last, visits_first, frames_reserved, enrolled_begins}
+use Rattle.dali_progress.proofs.{Both.{reserved_begins, no_enrolment_yet, entry_twice}, Frames.nobody_short, Later.{IsUnasked, later_leaves, turn_unasked}}
+use Rattle.dali_progress.proofs.Stands.{to_come, search_frames, probe_frames, Opens, Probes, VisitFrames, Visits, Leaves, VisitsAt, Closes, At, IsWithin}
+use Rattle.dali_progress.proofs.{Stands.{Stands, Sends}, Tables.tabled_over}
 
 -- A CONTROLLER ACTS on what it was told, and what it orders goes on with the commissioning.
 
@@ -75,6 +62,9 @@ IsNext before m (Commit x) gs left = IsUndisturbed m × CommitsTo before m x gs 
 IsNext before m (Done e) gs left = EndsWell e m.kept gs × AreTabled before m.kept.enrolled gs
 IsNext before m (Halt why) gs left = ⊥
 
+abbrev pub GoesTo : List Gear → Machine → Order → List Gear → ℕ → Type 0
+GoesTo before t o gs left = IsNext before (machine_ordered t o) o gs left
+
 calm_of : (before : List Gear) (t : Machine) (gs : List Gear) (left : ℕ) → Stands before t gs left → IsUndisturbed t
 calm_of before t gs left st = record { tries = st.tries; fresh = st.fresh; silent = st.silent; within = st.within }
 
@@ -82,8 +72,8 @@ calm_of before t gs left st = record { tries = st.tries; fresh = st.fresh; silen
 
 goes_later : (before : List Gear) (t : Machine) (o : Order) (s : Stage) (c : Command) (gs : List Gear) (left : ℕ) → Stands before t gs left
     → stage_of t.trace ≡ s → IsUnasked s t.course.purpose → o ≡ Put LATER (frame_of c) → IsSpelled c
-    → Sends t.course.purpose t.course.number t.kept (stage_of t.trace) c → IsNext before (machine_ordered t o) o gs left
-goes_later before t o s c gs left st at unasked is spelled sends = subst (λ q. IsNext before (machine_ordered t q) q gs left) (sym is)
+    → Sends t.course.purpose t.course.number t.kept (stage_of t.trace) c → GoesTo before t o gs left
+goes_later before t o s c gs left st at unasked is spelled sends = subst (λ q. GoesTo before t q gs left) (sym is)
     (subst (λ m. IsNext before m (Put LATER (frame_of c)) gs left) (sym (later_leaves t (frame_of c) s at unasked)) (
       record { tries = st.tries; fresh = st.fresh; silent = st.silent; trace = st.trace; within = st.within; tabled = st.tabled; at = st.at },
       subst (λ d. Sends t.course.purpose t.course.number t.kept (stage_of t.trace) d) (sym (read_written c spelled)) sends,
@@ -92,8 +82,8 @@ goes_later before t o s c gs left st at unasked is spelled sends = subst (λ q. 
 goes_by : (before : List Gear) (t : Machine) (o : Order) (cs : Course) (gs : List Gear) (left : ℕ) → IsUndisturbed t → AreTabled before t.kept.enrolled gs
     → o ≡ beginning (next_course t) → next_course t ≡ cs
     → IsSpelled (first_of cs.purpose cs.number) → At cs.purpose stage.Free t.kept cs.opened cs.search cs.number gs left
-    → IsNext before (machine_ordered t o) o gs left
-goes_by before t o cs gs left calm tabled is same spelled at = subst (λ q. IsNext before (machine_ordered t q) q gs left) (sym is) (
+    → GoesTo before t o gs left
+goes_by before t o cs gs left calm tabled is same spelled at = subst (λ q. GoesTo before t q gs left) (sym is) (
   record {
     tries = calm.tries;
     fresh = keeps_fresh t calm.fresh;
@@ -142,7 +132,7 @@ begins_search c gs left ready unnamed enough = record {
 
 searches_anew : (before : List Gear) (t : Machine) (o : Order) (gs : List Gear) (left : ℕ) → IsUndisturbed t → AreTabled before t.kept.enrolled gs
     → o ≡ beginning (next_course t) → next_course t ≡ searching_anew t.course
-    → IsOpened gs → NoneNamed gs → search_frames (count_by is_wanted gs) ≤ left → IsNext before (machine_ordered t o) o gs left
+    → IsOpened gs → NoneNamed gs → search_frames (count_by is_wanted gs) ≤ left → GoesTo before t o gs left
 searches_anew before t o gs left calm tabled is same ready unnamed enough =
     goes_by before t o (searching_anew t.course) gs left calm tabled is same tt (refl, begins_search t.course gs left ready unnamed enough)
 
@@ -155,7 +145,7 @@ goes_on_anew t opened fresh = ap (λ b. going_on t.kept b t.course) opened ∙ a
 -- its next frame
 turns_later : (before : List Gear) (t : Machine) (o : Order) (p : Purpose) (s : Stage) (c : Command) (gs : List Gear) (left : ℕ) → IsGivenBy t o
     → Stands before t gs left → t.course.purpose ≡ p → stage_of t.trace ≡ s
-    → turn_of p t.course.number s ≡ Some c → IsSpelled c → Sends p t.course.number t.kept s c → IsNext before (machine_ordered t o) o gs left
+    → turn_of p t.course.number s ≡ Some c → IsSpelled c → Sends p t.course.number t.kept s c → GoesTo before t o gs left
 turns_later before t o p s c gs left g st purpose is turn spelled sends =
     goes_later before t o s c gs left st is (subst (IsUnasked s) (sym purpose) (turn_unasked p t.course.number s c turn))
     (given.turns t o c g (rw (purpose, is) turn)) spelled
@@ -163,7 +153,7 @@ turns_later before t o p s c gs left g st purpose is turn spelled sends =
 
 opening_turns : (before : List Gear) (t : Machine) (o : Order) (s : Stage) (gs : List Gear) (left : ℕ) → IsGivenBy t o → Stands before t gs left
     → IsNoEnrolment t.last → t.course.purpose ≡ Opening → stage_of t.trace ≡ s → (s ≡ stage.Free → ⊥)
-    → Opens s gs left → IsNext before (machine_ordered t o) o gs left
+    → Opens s gs left → GoesTo before t o gs left
 opening_turns before t o stage.Free gs left g st last purpose is running opens = absurd (running refl)
 opening_turns before t o stage.Terminated gs left g st last purpose is running opens =
     turns_later before t o Opening stage.Terminated _ gs left g st purpose is refl tt refl
@@ -306,7 +296,7 @@ step_opened Nobody c = refl
 
 probing_turns : (before : List Gear) (t : Machine) (o : Order) (s : Stage) (gs : List Gear) (left : ℕ) → IsGivenBy t o → Stands before t gs left
     → IsNoEnrolment t.last → t.course.purpose ≡ Probing → stage_of t.trace ≡ s → (s ≡ stage.Free → ⊥)
-    → t.course.opened ≡ true → Probes s t.course.search t.course.number gs left → IsNext before (machine_ordered t o) o gs left
+    → t.course.opened ≡ true → Probes s t.course.search t.course.number gs left → GoesTo before t o gs left
 probing_turns before t o stage.Free gs left g st last purpose is running opened p = absurd (running refl)
 probing_turns before t o (stage.HighSent high) gs left g st last purpose is running opened p =
     turns_later before t o Probing (stage.HighSent high) _ gs left g st purpose is refl tt refl
@@ -331,7 +321,7 @@ probing_turns before t o _ gs left g st last purpose is running opened p = absur
 
 unnamed_turns : (before : List Gear) (t : Machine) (o : Order) (r : SearchAddress) (gs : List Gear) (left : ℕ) → IsGivenBy t o → Stands before t gs left
     → IsKept t.kept → t.course.purpose ≡ Visiting → stage_of t.trace ≡ stage.Unnamed r
-    → t.course.opened ≡ true → Visits (stage.Unnamed r) t.kept t.course.number gs left → IsNext before (machine_ordered t o) o gs left
+    → t.course.opened ≡ true → Visits (stage.Unnamed r) t.kept t.course.number gs left → GoesTo before t o gs left
 unnamed_turns before t o r gs left g st kept purpose is opened v = go (given.unnamed t o r st.fresh g is) where
   same : value_of r ≡ value_of t.course.number
   same = ap value_of (sym v.searched)
@@ -344,11 +334,11 @@ unnamed_turns before t o r gs left g st kept purpose is opened v = go (given.unn
   some (inl e) = let enough : 7 + search_frames v.more ≤ left + 4 = e.1 in omega (arith, enough)
   some (inr e) = omega (arith, e)
 
-  go : given.IsUnnamedBy t r o → IsNext before (machine_ordered t o) o gs left
+  go : given.IsUnnamedBy t r o → GoesTo before t o gs left
   go (inl e) =
       let small : e.0 < 64 = kept.reserved.short e.0 (has_address t.kept.reserved e.0 (value_of r) e.1) in
       goes_later before t o (stage.Unnamed r) (Program (Some e.0)) gs left st is tt e.2 small (rw is (e.0, small, e.1, refl))
-  go (inr (inl e)) = subst (λ q. IsNext before (machine_ordered t q) q gs left) (sym e.1.2) (
+  go (inr (inl e)) = subst (λ q. GoesTo before t q gs left) (sym e.1.2) (
     record { tries = st.tries; fresh = st.fresh; silent = st.silent; within = st.within },
     record {
       opened = opened;
@@ -378,7 +368,7 @@ no_contradiction k b n kept within has (inr is) =
 
 withdrawn_turns : (before : List Gear) (t : Machine) (o : Order) (r : SearchAddress) (a : ℕ) (gs : List Gear) (left : ℕ) → IsGivenBy t o
     → Stands before t gs left → IsKept t.kept → t.course.purpose ≡ Visiting → stage_of t.trace ≡ stage.Withdrawn r a
-    → t.course.opened ≡ true → Leaves r a t.kept t.course.number gs left → IsNext before (machine_ordered t o) o gs left
+    → t.course.opened ≡ true → Leaves r a t.kept t.course.number gs left → GoesTo before t o gs left
 withdrawn_turns before t o r a gs left g st kept purpose is opened v = go o g (g.ordered.found r a is) where
   reserved : Has t.kept.reserved (a, value_of r)
   reserved = subst (λ (m : SearchAddress). Has t.kept.reserved (a, value_of m)) (sym v.searched) v.reserved
@@ -387,12 +377,12 @@ withdrawn_turns before t o r a gs left g st kept purpose is opened v = go o g (g
   tabled = subst (λ (m : SearchAddress). AreTabled before ((a, value_of m) ∷ t.kept.enrolled) gs) (sym v.searched)
       (tabled_at before t gs left (stage.Withdrawn r a) st is)
 
-  go : (q : Order) → IsGivenBy t q → AfterFinding t a (value_of r) q → IsNext before (machine_ordered t q) q gs left
+  go : (q : Order) → IsGivenBy t q → AfterFinding t a (value_of r) q → GoesTo before t q gs left
   go (Put p f) g has =
       searches_anew before t (Put p f) gs left (calm_of before t gs left st)
       (tabled_over before ((a, value_of r) ∷ t.kept.enrolled) t.kept.enrolled gs (entry_twice t.kept.enrolled (a, value_of r) has) tabled)
       (given.withdrawn_known t (Put p f) r a g is kept.enrolled has) (ap (begins_at t) is ∙ goes_on_anew t opened st.fresh) v.ready v.unnamed v.frames
-  go (Commit x) g has = subst (λ y. IsNext before (machine_ordered t (Commit y)) (Commit y) gs left) (sym has) (
+  go (Commit x) g has = subst (λ y. GoesTo before t (Commit y) gs left) (sym has) (
     record { tries = st.tries; fresh = st.fresh; silent = st.silent; within = st.within },
     record { opened = opened; ready = v.ready; unnamed = v.unnamed; reserved = reserved; tabled = tabled; frames = v.frames },
   )
@@ -401,7 +391,7 @@ withdrawn_turns before t o r a gs left g st kept purpose is opened v = go o g (g
 
 visiting_turns : (before : List Gear) (t : Machine) (o : Order) (s : Stage) (gs : List Gear) (left : ℕ) → IsGivenBy t o → Stands before t gs left
     → IsKept t.kept → t.course.purpose ≡ Visiting → stage_of t.trace ≡ s → (s ≡ stage.Free → ⊥)
-    → t.course.opened ≡ true → VisitsAt s t.kept t.course.number gs left → IsNext before (machine_ordered t o) o gs left
+    → t.course.opened ≡ true → VisitsAt s t.kept t.course.number gs left → GoesTo before t o gs left
 visiting_turns before t o stage.Free gs left g st kept purpose is running opened v = absurd (running refl)
 visiting_turns before t o (stage.HighSent high) gs left g st kept purpose is running opened v =
     turns_later before t o Visiting (stage.HighSent high) _ gs left g st purpose is refl tt refl
@@ -422,22 +412,22 @@ visiting_turns before t o _ gs left g st kept purpose is running opened v = absu
 
 closing_turns : (before : List Gear) (t : Machine) (o : Order) (e : End) (s : Stage) (gs : List Gear) (left : ℕ) → IsGivenBy t o → Stands before t gs left
     → t.course.purpose ≡ Closing e → stage_of t.trace ≡ s → (s ≡ stage.Free → ⊥)
-    → Closes e s t.kept gs left → IsNext before (machine_ordered t o) o gs left
+    → Closes e s t.kept gs left → GoesTo before t o gs left
 closing_turns before t o e stage.Free gs left g st purpose is running v = absurd (running refl)
 closing_turns before t o e stage.Terminated gs left g st purpose is running v =
     let ends : o ≡ Done e =
     given.closed t o e g (ap closing_of purpose) is (found_none before t gs left stage.Terminated st is refl) (never_eight t.tries st.tries) in
-    subst (λ q. IsNext before (machine_ordered t q) q gs left) (sym ends) (v.well, tabled_at before t gs left stage.Terminated st is)
+    subst (λ q. GoesTo before t q gs left) (sym ends) (v.well, tabled_at before t gs left stage.Terminated st is)
 closing_turns before t o e _ gs left g st purpose is running v = absurd v.stage_is
 
 -- ---------------------------------------------------------------- of whatever transaction
 
 -- after a frame that was heard
 pub turned : (before : List Gear) (t : Machine) (o : Order) (gs : List Gear) (left : ℕ) → IsGivenBy t o → Stands before t gs left → IsKept t.kept
-    → IsNoEnrolment t.last → (stage_of t.trace ≡ stage.Free → ⊥) → IsNext before (machine_ordered t o) o gs left
+    → IsNoEnrolment t.last → (stage_of t.trace ≡ stage.Free → ⊥) → GoesTo before t o gs left
 turned before t o gs left g st kept last running = go t.course.purpose refl st.at where
   go : (p : Purpose) → t.course.purpose ≡ p → At p (stage_of t.trace) t.kept t.course.opened t.course.search t.course.number gs left
-      → IsNext before (machine_ordered t o) o gs left
+      → GoesTo before t o gs left
   go Opening purpose at = opening_turns before t o (stage_of t.trace) gs left g st last purpose refl running at.1
   go Probing purpose at = probing_turns before t o (stage_of t.trace) gs left g st last purpose refl running at.0 at.1
   go Visiting purpose at = visiting_turns before t o (stage_of t.trace) gs left g st kept purpose refl running at.0 at.1
@@ -457,7 +447,7 @@ started_begins t o g calm free last = given.begins_free t o g free (no_enrolment
 
 pub started : (before : List Gear) (t : Machine) (o : Order) (gs : List Gear) (left : ℕ) → IsGivenBy t o → IsUndisturbed t → AreTabled before t.kept.enrolled gs
     → t.trace ≡ [] → t.last ≡ None → t.kept.reserved ≡ [] → t.course.opened ≡ false → t.course.purpose ≡ Opening
-    → 5 + search_frames (count_by is_bare gs) ≤ left → IsNext before (machine_ordered t o) o gs left
+    → 5 + search_frames (count_by is_bare gs) ≤ left → GoesTo before t o gs left
 started before t o gs left g calm tabled free last none unopened purpose enough =
     let stage : stage_of t.trace ≡ stage.Free = ap stage_of free ∙ stage_none in
     let next : next_course t ≡ opening_of t.course =
@@ -481,7 +471,7 @@ within_enrolled k b r within reserved x has = go (has_cases k.enrolled (b, r) x 
 reserved_next : (before : List Gear) (m : Machine) (a r : ℕ) (o : Order) (gs : List Gear) (left : ℕ) → IsUndisturbed m → Reserves before m r gs left
     → m.trace ≡ []
     → m.last ≡ Some (Commit (Reserve a r))
-    → IsGivenBy (with_kept m (Reserve a r)) o → IsNext before (machine_ordered (with_kept m (Reserve a r)) o) o gs left
+    → IsGivenBy (with_kept m (Reserve a r)) o → GoesTo before (with_kept m (Reserve a r)) o gs left
 reserved_next before m a r o gs left calm v free last g =
     let stage : stage_of m.trace ≡ stage.Free = ap stage_of free ∙ stage_none in
     let t : Machine = with_kept m (Reserve a r) in
@@ -497,7 +487,7 @@ reserved_next before m a r o gs left calm v free last g =
 enrolled_next : (before : List Gear) (m : Machine) (b r : ℕ) (o : Order) (gs : List Gear) (left : ℕ) → IsUndisturbed m → Enrols before m b r gs left
     → m.trace ≡ []
     → m.last ≡ Some (Commit (Enrol b r)) → IsMap m.kept.reserved
-    → IsGivenBy (with_kept m (Enrol b r)) o → IsNext before (machine_ordered (with_kept m (Enrol b r)) o) o gs left
+    → IsGivenBy (with_kept m (Enrol b r)) o → GoesTo before (with_kept m (Enrol b r)) o gs left
 enrolled_next before m b r o gs left calm v free last map g =
     let stage : stage_of m.trace ≡ stage.Free = ap stage_of free ∙ stage_none in
     searches_anew before (with_kept m (Enrol b r)) o gs left
@@ -510,7 +500,7 @@ enrolled_next before m b r o gs left calm v free last map g =
 pub committed : (before : List Gear) (m : Machine) (x : Record) (o : Order) (gs : List Gear) (left : ℕ) → IsUndisturbed m → CommitsTo before m x gs left
     → m.trace ≡ []
     → m.last ≡ Some (Commit x) → IsMap m.kept.reserved
-    → IsGivenBy (with_kept m x) o → IsNext before (machine_ordered (with_kept m x) o) o gs left
+    → IsGivenBy (with_kept m x) o → GoesTo before (with_kept m x) o gs left
 committed before m (Reserve a r) o gs left calm v free last map g = reserved_next before m a r o gs left calm v free last g
 committed before m (Enrol b r) o gs left calm v free last map g = enrolled_next before m b r o gs left calm v free last map g
 committed before m _ o gs left calm v free last map g = absurd v

@@ -1,44 +1,24 @@
-use Rattle.std.proofs.Common.{◌≡◌, ℕ, ◌+◌, ◌-◌, ◌*◌, ◌<◌, ◌≤◌, ◌⊎◌, inl, inr, Bool, true, false, zero, suc, List, [], ◌∷◌, ◌++◌, refl, sym, ap, subst, ◌∙◌}
-use Rattle.std.proofs.Common.{arith, Option, Some, None, min, ◌==◌, ◌&&◌, ◌||◌, not, is_some, MatchOption, if◌then◌else◌}
-use Rattle.std.{proofs.lemmas.Bool.Decides.nat_tests, specs.List.count_by}
-use Rattle.dali_frame.specs.{Priority.FIRST, Priority.LATER, Random.MASK24, declared.frames.Forward.Forward, declared.numbers.SearchAddress.SearchAddress}
-use Rattle.dali_special.specs.{Command.frame_of, Command.command_of, declared.command.Command.Command}
-use Rattle.dali_gear.specs.Gear.{Gear}
-use Rattle.dali_script.specs.{Findings.finding_of, Records.Assignment, Records.Kept, Records.Has, Records.HasAddress, Records.with_record, Stages.IsTrace}
-use Rattle.dali_script.specs.{Stages.stage_of, declared.orders.Order.Order}
-use Rattle.dali_script.specs.declared.orders.Order.TheVariants.{Put, Commit, Done, Halt}
-use Rattle.dali_script.specs.declared.records.Record.{Record, TheVariants.Reserve, TheVariants.Enrol, TheVariants.Release}
-use Rattle.dali_script.{specs.declared.stage.Stage.Stage, proofs.Found.trace_none, proofs.Lists.has_map, proofs.Lists.has_cases, proofs.Transactions.stage_none}
+use Rattle.dali_progress.proofs.Below.{◌≡◌, ℕ, ◌+◌, ◌-◌, ◌*◌, ◌<◌, ◌≤◌, ◌⊎◌, inl, inr, Bool, true, false, zero, suc, List, [], ◌∷◌, ◌++◌, refl, sym, ap, subst}
+use Rattle.dali_progress.proofs.Below.{◌∙◌, arith, Option, Some, None, min, ◌==◌, ◌&&◌, ◌||◌, not, is_some, MatchOption, if◌then◌else◌, nat_tests, count_by}
+use Rattle.dali_progress.proofs.Below.{FIRST, LATER, MASK24, Forward, SearchAddress, frame_of, command_of, Command, Gear, finding_of, Assignment, Kept, Has}
+use Rattle.dali_progress.proofs.Below.{HasAddress, with_record, IsTrace, stage_of, Order, Put, Commit, Done, Halt, Record, Reserve, Enrol, Release, Stage}
+use Rattle.dali_progress.proofs.Below.{trace_none, has_map, has_cases, stage_none, Ascent, IsAscent, asked_next, leads_to, ascent_at_first, above, gone_on_from}
+use Rattle.dali_progress.proofs.Below.{Found, Course, turn_of, number_at, is_open, open_among, least_open, is_another, is_anothers, is_asked, next_asked}
+use Rattle.dali_progress.proofs.Below.{ask_or_call, asking, calling_first, going_on, going_on_early, sought, hunting, hunting_first, searching_on, Machine}
+use Rattle.dali_progress.proofs.Below.{next_course, course_by, beginning, goes_on_to, BeginsWith, machine_ordered, asked_by, IsAllowed, IsCaused, has_short}
+use Rattle.dali_progress.proofs.Below.{served, IsWhole, Sends as SendsWhole, Purpose, Hunting, Visiting, Asking as Counting, Shorts, found_number, IsGivenBy}
+use Rattle.dali_progress.proofs.Below.{IsNoEnrolment, is_bare, is_wanted, wants, IsOpened, NoneNamed, SameCore, AreTabled, IsSettled}
 use Rattle.dali_script.specs.declared.orders.Fault.TheVariants as fault
 use Rattle.dali_script.specs.declared.stage.Stage.TheVariants as stage
-use Rattle.dali_search.specs.Ascending.{Ascent, IsAscent, asked_next, leads_to, ascent_at_first, above, gone_on_from}
-use Rattle.dali_search.specs.declared.step.Step.TheVariants.{Found}
-use Rattle.dali_controller.specs.Course.{Course, turn_of, number_at, is_open, open_among, least_open, is_another, is_anothers, is_asked, next_asked}
-use Rattle.dali_controller.specs.Course.{ask_or_call, asking, calling_first, going_on, going_on_early, sought, hunting, hunting_first, searching_on}
-use Rattle.dali_controller.specs.{Machine.Machine, Next.next_course, Next.course_by, Next.beginning, Next.goes_on_to, Next.BeginsWith, Orders.machine_ordered}
-use Rattle.dali_controller.specs.{Orders.asked_by, Orders.IsAllowed, Orders.IsCaused, Shorts.has_short, Tally.served, Whole.IsWhole, Whole.Sends as SendsWhole}
-use Rattle.dali_controller.specs.declared.purpose.Purpose.{Purpose, TheVariants.Hunting, TheVariants.Visiting, TheVariants.Asking as Counting}
-use Rattle.dali_controller.specs.declared.{shorts.Shorts.Shorts, tally.Tally.Tally}
-use Rattle.dali_controller.proofs.{Courses.found_number, Given.IsGivenBy, Given.IsNoEnrolment}
 use Rattle.dali_controller.proofs.Given as given
-use Rattle.dali_events.specs.Wanted.{is_bare, is_wanted, wants, IsOpened, NoneNamed}
-use Rattle.dali_events.proofs.Search.Leaving.{SameCore}
-use Rattle.dali_progress.{specs.Ends.AreTabled, specs.Rounds.IsSettled, proofs.Both.never_eight}
-use Rattle.dali_progress.proofs.Census.{Asked.sending_of, Coming.asked_later, Coming.asked_before, Coming.unasked_enrolled, Coming.from_next, Left.asked_within}
-use Rattle.dali_progress.proofs.{Later.IsUnasked, Later.later_leaves, Later.turn_unasked, Later.course_stays, Survey.Drawn.those_drawn}
-use Rattle.dali_progress.proofs.Survey.{Drawn.is_lost, Drawn.bare_split, Queried.OneShort, Queried.IsTrue, Queried.AreOwned, Queried.TabledBelow}
-use Rattle.dali_progress.proofs.Survey.{Queried.unseen, Queried.below_all, Queried.below_named, Rising.rises_so, Rising.rises_first, Rising.rises_above}
-use Rattle.dali_progress.proofs.Survey.Stands.{Begun, survey_frames, Counts, IsUncalled, IsFirstDraw, IsCalledFor, called_after, hunted_after, roll_frames}
-use Rattle.dali_progress.proofs.Survey.Stands.{frames_after, Rises, HuntAt, Hunts, AreTaken, SurveyEnds, IsSmooth, SurveyAt, SurveyStands}
-use Rattle.dali_progress.proofs.{Survey.Woken.AreLow, Surveying.roll_first, Surveying.IsClear}
+use Rattle.dali_progress.proofs.{Both.never_eight, Census.Asked.sending_of, Census.Coming.{asked_later, asked_before, unasked_enrolled, from_next}}
+use Rattle.dali_progress.proofs.{Census.Left.asked_within, Later.{IsUnasked, later_leaves, turn_unasked, course_stays}, Survey.Drawn.{those_drawn, is_lost}}
+use Rattle.dali_progress.proofs.{Survey.Drawn.bare_split, Survey.Queried.{OneShort, IsTrue, AreOwned, TabledBelow, unseen, below_all, below_named}}
+use Rattle.dali_progress.proofs.{Survey.Rising.{rises_so, rises_first, rises_above}, Survey.Stands.{Begun, survey_frames, Counts, IsUncalled, IsCalledFor}}
+use Rattle.dali_progress.proofs.Survey.Stands.{called_after, hunted_after, roll_frames, frames_after, Rises, HuntAt, Hunts, AreTaken, SurveyEnds, IsSmooth}
+use Rattle.dali_progress.proofs.{Survey.Stands.{SurveyAt, SurveyStands, IsHunted, Calm}, Surveying.{roll_first, IsClear}}
 
 -- A TRANSACTION OF A SURVEY BEGINS, or goes on; and what is to come of an order.
-
--- what every machine has that is not disturbed
-pub record Calm (m : Machine) : Type 0 where
-  pub tries : m.tries ≡ 0
-  pub silent : m.silent ≡ 0
-  pub smooth : IsSmooth m.course
 
 -- the next short address is asked, once a record is kept: with these entries of the table
 pub record AsksCounted (start : Begun) (m : Machine) (a : ℕ) (entries : List Assignment) (gs : List Gear) (left : ℕ) : Type 0 where
@@ -66,13 +46,6 @@ pub record Above (x : Ascent) (r : ℕ) (gs : List Gear) : Type 0 where
   pub reached : leads_to x ≡ Found r
   pub drawn : r < MASK24
   pub past : (k : ℕ) → wants gs k ≡ true → r < k
-
--- what is known while gear are hunted, whichever transaction is to come
-pub record IsHunted (c : Course) (gs : List Gear) : Type 0 where
-  pub opened : c.opened ≡ true
-  pub loud : c.tally.is_silent ≡ false
-  pub first : IsFirstDraw c.tally gs
-  pub low : AreLow gs
 
 -- a gear that was given its address is to be enrolled, and then the search goes on above it
 pub record EnrolsHunted (start : Begun) (m : Machine) (b r : ℕ) (gs : List Gear) (left : ℕ) : Type 0 where
@@ -121,20 +94,8 @@ IsNext start m (Done e) gs left =
     SurveyEnds e m.kept m.heard gs × AreTabled (unseen start.gear) m.kept.enrolled gs × (IsSettled start.kept → IsSettled m.kept)
 IsNext start m (Halt why) gs left = ⊥
 
-pub calm_of : {told : Bool} (start : Begun) (t : Machine) (gs : List Gear) (left : ℕ) → SurveyStands told start t gs left → Calm t
-calm_of start t gs left st = record { tries = st.tries; silent = st.silent; smooth = st.smooth }
-
-pub calm_ordered : {told : Bool} (start : Begun) (t : Machine) (x : Record) (gs : List Gear) (left : ℕ) → SurveyStands told start t gs left
-    → Calm (machine_ordered t (Commit x))
-calm_ordered start t x gs left st = record { tries = st.tries; silent = st.silent; smooth = st.smooth }
-
--- with the same way, and what is counted the same
-pub smooth_as : (c d : Course) → d.way ≡ c.way → d.tally ≡ c.tally → IsSmooth c → IsSmooth d
-smooth_as c d way tally smooth = record {
-  way = way ∙ smooth.way;
-  passed = ap (λ (y : Tally). y.passed) tally ∙ smooth.passed;
-  unmissed = ap (λ (y : Tally). y.is_missed) tally ∙ smooth.unmissed;
-}
+abbrev pub GoesTo : Begun → Machine → Order → List Gear → ℕ → Type 0
+GoesTo start t o gs left = IsNext start (machine_ordered t o) o gs left
 
 -- ---------------------------------------------------------------- a later frame, and a first one
 
@@ -157,11 +118,8 @@ hunt_untold _ s k x n gs left unasked at = absurd at
 hunts_untold : (p : Purpose) (s : Stage) (k : Kept) (heard : Shorts) (c : Course) (start : Begun)
     (gs : List Gear) (left : ℕ) → IsUnasked s p → Hunts true p s k heard c start gs left → Hunts false p s k heard c start gs left
 hunts_untold p s k heard c start gs left unasked v = record {
-  opened_is = v.opened_is;
-  loud = v.loud;
-  first = v.first;
+  hunted = v.hunted;
   called = v.called;
-  low = v.low;
   clear = v.clear;
   settled = v.settled;
   rest = v.rest;
@@ -181,13 +139,11 @@ untold Visiting s k heard asked c start gs left unasked at = hunts_untold Visiti
 untold _ s k heard asked c start gs left unasked at = at
 
 pub later_by : (start : Begun) (t : Machine) (o : Order) (s : Stage) (f : Forward) (gs : List Gear) (left : ℕ) → SurveyStands true start t gs left
-    → o ≡ Put LATER f → stage_of t.trace ≡ s → IsUnasked s t.course.purpose → IsNext start (machine_ordered t o) o gs left
-later_by start t o s f gs left st is at unasked = subst (λ q. IsNext start (machine_ordered t q) q gs left) (sym is)
+    → o ≡ Put LATER f → stage_of t.trace ≡ s → IsUnasked s t.course.purpose → GoesTo start t o gs left
+later_by start t o s f gs left st is at unasked = subst (λ q. GoesTo start t q gs left) (sym is)
     (subst (λ m. IsNext start m (Put LATER f) gs left) (sym (later_leaves t f s at unasked)) (
       record {
-        tries = st.tries;
-        silent = st.silent;
-        smooth = st.smooth;
+        calm = st.calm;
         trace = st.trace;
         at = untold t.course.purpose (stage_of t.trace) t.kept t.heard t.asked t.course start gs left
             (subst (λ q. IsUnasked q t.course.purpose) (sym at) unasked) st.at;
@@ -197,20 +153,18 @@ later_by start t o s f gs left st is at unasked = subst (λ q. IsNext start (mac
 
 pub turns_by : (start : Begun) (t : Machine) (o : Order) (p : Purpose) (s : Stage) (c : Command) (gs : List Gear) (left : ℕ) → IsGivenBy t o
     → SurveyStands true start t gs left → t.course.purpose ≡ p → stage_of t.trace ≡ s → turn_of p t.course.number s ≡ Some c
-    → IsNext start (machine_ordered t o) o gs left
+    → GoesTo start t o gs left
 turns_by start t o p s c gs left g st purpose at turn =
     later_by start t o s (frame_of c) gs left st (given.turns t o c g (rw (purpose, at) turn)) at
     (subst (IsUnasked s) (sym purpose) (turn_unasked p t.course.number s c turn))
 
 pub first_by : (start : Begun) (t : Machine) (o : Order) (cs : Course) (gs : List Gear) (left : ℕ) → Calm t → o ≡ beginning (next_course t)
     → next_course t ≡ cs → IsSmooth cs → SurveyAt false cs.purpose stage.Free t.kept t.heard (asked_by cs.opened t.asked) cs start gs left
-    → IsNext start (machine_ordered t o) o gs left
+    → GoesTo start t o gs left
 first_by start t o cs gs left calm is same smooth at =
-    subst (λ q. IsNext start (machine_ordered t q) q gs left) (sym is) (
+    subst (λ q. GoesTo start t q gs left) (sym is) (
       record {
-        tries = calm.tries;
-        silent = calm.silent;
-        smooth = subst IsSmooth (sym same) smooth;
+        calm = record { untried = calm.untried; loud = calm.loud; smooth = subst IsSmooth (sym same) smooth };
         trace = subst (λ s. IsTrace s []) (sym stage_none) trace_none;
         at = subst (λ s. SurveyAt false (next_course t).purpose s t.kept t.heard (asked_by (next_course t).opened t.asked) (next_course t) start gs left)
             (sym stage_none)
@@ -369,7 +323,7 @@ pub asks_on : (start : Begun) (t : Machine) (o : Order) (f : ℕ) (gs : List Gea
     → (IsSettled start.kept → IsSettled t.kept)
     → IsClear t.kept t.heard → OneShort gs → IsTrue t.kept.enrolled gs → SameCore start.gear gs
     → TabledBelow f start.gear t.kept.enrolled gs
-    → 3 * (64 - f) + survey_frames gs ≤ left → IsNext start (machine_ordered t o) o gs left
+    → 3 * (64 - f) + survey_frames gs ≤ left → GoesTo start t o gs left
 asks_on start t o f gs left calm is next uncalled asked from few settled clear one holds same tabled enough =
     go (next_asked t.kept f) course (asked_later t.kept (64 - f) f) (asked_before t.kept (64 - f) f) (asked_within t.kept (64 - f) f) where
       course : next_course t ≡ ask_or_call t.course (next_asked t.kept f)
@@ -380,14 +334,14 @@ asks_on start t o f gs left calm is next uncalled asked from few settled clear o
       go : (p : Option ℕ) → next_course t ≡ ask_or_call t.course p
           → (p ≡ None → (c : ℕ) → f ≤ c → c < f + (64 - f) → is_asked t.kept c ≡ false)
           → ((d : ℕ) → p ≡ Some d → (c : ℕ) → f ≤ c → c < d → is_asked t.kept c ≡ false)
-          → ((d : ℕ) → p ≡ Some d → (f ≤ d) × (d < f + (64 - f))) → IsNext start (machine_ordered t o) o gs left
+          → ((d : ℕ) → p ≡ Some d → (f ≤ d) × (d < f + (64 - f))) → GoesTo start t o gs left
       go (Some d) at none before within =
           let there = within d refl in
           let low : f ≤ d = there.0 in
           let high : d < f + (64 - f) = there.1 in
           let small : d < 64 = omega (arith, high, few) in
           let unasked : asked_by t.course.opened t.asked ≡ 0 = asked_none t.course.opened t.asked asked in
-          first_by start t o (asking t.course d) gs left calm is at (smooth_as t.course (asking t.course d) refl refl calm.smooth) (
+          first_by start t o (asking t.course d) gs left calm is at calm.smooth (
             record { unopened = uncalled.unopened; undrawn = uncalled.undrawn; loud = uncalled.loud },
             record {
               ask = record { small = small; asked = tt; clear = clear };
@@ -404,7 +358,7 @@ asks_on start t o f gs left calm is next uncalled asked from few settled clear o
           count : (rest d asked : ℕ) → f ≤ d → d < 64 → asked ≡ 0 → 3 * (64 - f) + rest ≤ left → 3 * (63 - d) + (3 - asked) + rest ≤ left
           count rest d asked low small none enough = omega (arith, low, small, none, enough)
       go None at none before within =
-          first_by start t o (calling_first t.course) gs left calm is at (smooth_as t.course (calling_first t.course) refl refl calm.smooth)
+          first_by start t o (calling_first t.course) gs left calm is at calm.smooth
           (record {
             opened_is = refl;
             roll = roll_first gs;
@@ -431,15 +385,12 @@ pub hunts_by : (start : Begun) (t : Machine) (o : Order) (cs : Course) (rest : �
     → next_course t ≡ hunting cs → IsSmooth cs → IsHunted cs gs → IsCalledFor Hunting cs.ascent gs → IsClear t.kept t.heard
     → (IsSettled start.kept → IsSettled t.kept) → Rises false stage.Free cs.ascent (sought (asked_next cs.ascent)) (those_drawn gs) rest
     → AreTabled (unseen start.gear) t.kept.enrolled (those_drawn gs)
-    → rest + frames_after Hunting cs.ascent gs ≤ left → IsNext start (machine_ordered t o) o gs left
+    → rest + frames_after Hunting cs.ascent gs ≤ left → GoesTo start t o gs left
 hunts_by start t o cs rest gs left calm is next smooth hunted called clear settled rises tabled frames =
-    first_by start t o (hunting cs) gs left calm is next (smooth_as cs (hunting cs) refl refl smooth)
+    first_by start t o (hunting cs) gs left calm is next smooth
     (record {
-      opened_is = hunted.opened;
-      loud = hunted.loud;
-      first = hunted.first;
+      hunted = hunted;
       called = called;
-      low = hunted.low;
       clear = clear;
       settled = settled;
       rest = rest;
@@ -457,11 +408,10 @@ pub hunts_first : (start : Begun) (t : Machine) (o : Order) (cs : Course) (gs : 
     → AreTabled (unseen start.gear) t.kept.enrolled (those_drawn gs)
     → 106 * count_by is_wanted (those_drawn gs) + 10
     + hunted_after (count_by is_wanted (those_drawn gs)) (count_by is_lost gs) ≤ left
-    → IsNext start (machine_ordered t o) o gs left
+    → GoesTo start t o gs left
 hunts_first start t o cs gs left calm is next smooth hunted some clear settled ready unnamed tabled frames =
     hunts_by start t o (record cs { ascent = ascent_at_first }) (106 * count_by is_wanted (those_drawn gs) + 10) gs left calm is next
-    (smooth_as cs (record cs { ascent = ascent_at_first }) refl refl smooth)
-    (record { opened = hunted.opened; loud = hunted.loud; first = hunted.first; low = hunted.low }) (λ none. some) clear settled
+    smooth hunted (λ none. some) clear settled
     (rises_first (those_drawn gs) (106 * count_by is_wanted (those_drawn gs) + 10) ready unnamed (omega arith)) tabled
     (subst (λ n. 106 * count_by is_wanted (those_drawn gs) + 10 + hunted_after n (count_by is_lost gs) ≤ left)
     (no_more (count_by is_wanted (those_drawn gs))) frames)
@@ -475,13 +425,13 @@ pub hunts_on : (start : Begun) (t : Machine) (o : Order) (r : ℕ) (gs : List Ge
     → (IsSettled start.kept → IsSettled t.kept) → Above t.course.ascent r (those_drawn gs) → IsOpened (those_drawn gs)
     → NoneNamed (those_drawn gs) → AreTabled (unseen start.gear) t.kept.enrolled (those_drawn gs)
     → 106 * count_by is_wanted (those_drawn gs) + 32 + called_after (count_by is_lost gs) ≤ left
-    → IsNext start (machine_ordered t o) o gs left
+    → GoesTo start t o gs left
 hunts_on start t o r gs left calm is next hunted clear settled up ready unnamed tabled frames =
     hunts_by start t o served_above (106 * count_by is_wanted (those_drawn gs) + 32) gs left calm is
-    (next ∙ ap (λ b. going_on t.kept b t.course) hunted.opened ∙ ap (λ y. searching_on y t.course) calm.smooth.way
+    (next ∙ ap (λ b. going_on t.kept b t.course) hunted.opened_is ∙ ap (λ y. searching_on y t.course) calm.smooth.way
     ∙ ap (λ x. hunting (record t.course { tally = served t.course.tally; ascent = gone_on_from x t.course.ascent })) up.reached)
     (record { way = calm.smooth.way; passed = refl; unmissed = calm.smooth.unmissed })
-    (record { opened = hunted.opened; loud = hunted.loud; first = hunted.first; low = hunted.low })
+    hunted
     (λ none. absurd (let some : 0 < (above t.course.ascent r).found = found in omega (arith, some, none))) clear settled
     (rises_above t.course.ascent r (those_drawn gs) (106 * count_by is_wanted (those_drawn gs) + 32) up.is up.drawn up.past ready unnamed (omega arith)) tabled
     (subst (λ n. 106 * count_by is_wanted (those_drawn gs) + 32 + n ≤ left)

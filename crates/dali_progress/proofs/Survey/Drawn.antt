@@ -1,19 +1,11 @@
-use Rattle.std.proofs.Common.{◌≡◌, ℕ, ◌+◌, ◌<◌, ◌⊎◌, inl, inr, Bool, true, false, zero, suc, List, [], ◌∷◌, refl, sym, ap, subst, ◌∙◌, arith, length, Option}
-use Rattle.std.proofs.Common.{Some, None, ◌==◌, ◌&&◌, not, is_some, nat_le, if◌then◌else◌}
-use Rattle.std.{proofs.lemmas.Bool.Decides.nat_tests, proofs.lemmas.List.Sums.sum_by-cons, specs.List.count_by}
-use Rattle.dali_frame.specs.{Random.value_of, Random.MASK24, declared.numbers.SearchAddress.SearchAddress}
-use Rattle.dali_special.specs.declared.command.Command.{Command}
-use Rattle.dali_special.specs.declared.command.Command.TheVariants.{Randomise, Compare, Withdraw, SearchHigh, SearchMiddle, SearchLow, Program, QueryShort}
-use Rattle.dali_gear.specs.Gear.{Gear, fresh, is_enabled, is_active, is_found, draws_a_number, gear_taken, answer, short_after}
-use Rattle.dali_gear.specs.Row.{takes, next_draw, one_after, left_after, row_after, option_cons, answers_of}
-use Rattle.dali_gear.specs.declared.row.Reach.TheVariants.{Everyone}
-use Rattle.dali_gear.specs.declared.state.InitialisationState.TheVariants.{Disabled, Enabled}
-use Rattle.dali_script.{specs.Records.Assignment, specs.Records.Has, proofs.Members.same_member}
+use Rattle.dali_progress.proofs.Below.{◌≡◌, ℕ, ◌+◌, ◌<◌, ◌⊎◌, inl, inr, Bool, true, false, zero, suc, List, [], ◌∷◌, refl, sym, ap, subst, ◌∙◌, arith, length}
+use Rattle.dali_progress.proofs.Below.{Option, Some, None, ◌==◌, ◌&&◌, not, is_some, nat_le, if◌then◌else◌, nat_tests, sum_by-cons, count_by, value_of, MASK24}
+use Rattle.dali_progress.proofs.Below.{SearchAddress, Command, Randomise, Compare, Withdraw, SearchHigh, SearchMiddle, SearchLow, Program, QueryShort, Gear}
+use Rattle.dali_progress.proofs.Below.{fresh, is_enabled, is_active, is_found, draws_a_number, gear_taken, answer, short_after, takes, next_draw, one_after}
+use Rattle.dali_progress.proofs.Below.{left_after, row_after, option_cons, answers_of, Everyone, Disabled, Enabled, Assignment, Has, same_member, AreDrawn}
+use Rattle.dali_progress.proofs.Below.{is_bare, gear_of, OfPowered, Seek, AreApart, IsOpened, NoneNamed, World, row_length, AreOpening, OpenedBy, both_pass}
+use Rattle.dali_progress.proofs.Below.{same_number, number_same, count_same, after_at, AreTabled}
 use Rattle.dali_script.specs.declared.stage.Stage.TheVariants as stage
-use Rattle.dali_events.specs.{Runs.AreDrawn, Wanted.is_bare, Wanted.gear_of, Wanted.OfPowered, Wanted.Seek, Wanted.AreApart, Wanted.IsOpened, Wanted.NoneNamed}
-use Rattle.dali_events.{specs.World.World, proofs.Invariant.Takes.row_length, proofs.Search.Opened.AreOpening, proofs.Search.Opened.OpenedBy}
-use Rattle.dali_events.proofs.Search.Wanted.{both_pass, same_number, number_same, count_same, after_at}
-use Rattle.dali_progress.specs.Ends.{AreTabled}
 
 -- A HUNT sees the gear that drew a number. Gear without short address whose number is FFFFFF are left out of the row,
 -- as gear without power would be; so what is known of a search after an opening is known of this one.

@@ -1,45 +1,30 @@
-use Rattle.std.proofs.Common.{◌≡◌, ℕ, ◌-◌, ◌+◌, ◌*◌, ◌<◌, ◌≤◌, inl, inr, Bool, true, false, suc, List, [], ◌∷◌, ◌++◌, refl, sym, ap, subst, ◌∙◌, arith, length}
-use Rattle.std.proofs.Common.{Option, Some, None, ◌⊎◌, ◌==◌, if◌then◌else◌}
-use Rattle.std.proofs.lemmas.{List.append-nil, Nat.Bits.bit_at-zero}
-use Rattle.dali_frame.specs.{Priority.LATER, declared.frames.Answer.Answer, declared.frames.Forward.Forward}
-use Rattle.dali_special.specs.{Command.command_of, declared.command.Command.Command, declared.command.Command.TheVariants.RandomByte}
-use Rattle.dali_special.specs.declared.command.Part.TheVariants.{High, Middle, Low}
-use Rattle.dali_gear.specs.{Gear.Gear, Row.row_after, Row.answers_of, Row.heard_of, declared.row.Reach.TheVariants.Everyone}
-use Rattle.dali_script.specs.{Due.frame_put, Due.record_ordered, Findings.assigned, Findings.search_of, Findings.asked_of, Findings.found_by, Findings.later}
-use Rattle.dali_script.specs.{Findings.finding_of, Records.Kept, Records.Assignment, Records.Has, Scripts.IsLawful, Stages.IsTrace, Stages.stage_of}
-use Rattle.dali_script.specs.{Stages.next_stage, Stages.finding_at, declared.finding.Finding.Finding}
-use Rattle.dali_script.specs.declared.orders.{End.End, End.TheVariants.AllFound, End.TheVariants.BlockFull, End.TheVariants.GaveUp, Input.Input, Order.Order}
-use Rattle.dali_script.specs.declared.orders.Order.TheVariants.{Put, Commit, Done, Halt}
-use Rattle.dali_script.specs.declared.{records.Record.Record, records.Record.TheVariants.Enrol, stage.Stage.Stage}
-use Rattle.dali_script.proofs.{Found.finding_more, Found.trace_more, Transactions.stage_more, Transactions.stage_none}
+use Rattle.dali_progress.proofs.Below.{◌≡◌, ℕ, ◌-◌, ◌+◌, ◌*◌, ◌<◌, ◌≤◌, inl, inr, Bool, true, false, suc, List, [], ◌∷◌, ◌++◌, refl, sym, ap, subst, ◌∙◌, arith}
+use Rattle.dali_progress.proofs.Below.{length, Option, Some, None, ◌⊎◌, ◌==◌, if◌then◌else◌, bit_at-zero, LATER, Answer, Forward, command_of, Command}
+use Rattle.dali_progress.proofs.Below.{RandomByte, High, Middle, Low, Gear, row_after, answers_of, heard_of, Everyone, frame_put, record_ordered, assigned}
+use Rattle.dali_progress.proofs.Below.{search_of, asked_of, found_by, later, finding_of, Kept, Assignment, Has, IsLawful, IsTrace, stage_of, next_stage}
+use Rattle.dali_progress.proofs.Below.{finding_at, Finding, End, AllFound, BlockFull, GaveUp, Input, Order, Put, Commit, Done, Halt, Record, Enrol, Stage}
+use Rattle.dali_progress.proofs.Below.{finding_more, trace_more, stage_more, stage_none, Course, Machine, machine_heard, machine_committed, machine_surveying}
+use Rattle.dali_progress.proofs.Below.{machine_told, silent_after, heard_after, asked_after, next_course, begins_at, at_rest, beginning, Contradicts}
+use Rattle.dali_progress.proofs.Below.{machine_ordered, machine_after, has_short, IsWhole, Purpose, Opening, Probing, Hunting, Visiting, Resolving, Closing}
+use Rattle.dali_progress.proofs.Below.{Asking, Calling, Drawing, PassingOver, Shorts, IsGivenBy, Allowed, IsUp, happens, entry, trace_running, FindingsAgree}
+use Rattle.dali_progress.proofs.Below.{HasFound, KeepsPromiseNow, IsRun, gear_of, World, Controller, controller_at, findings_agree_in, keeps_promise}
+use Rattle.dali_progress.proofs.Below.{holds_after, reserved_number, SameCore, IsFound, informed_by, SiteState, world, site_logged, machine_at, AreTabled}
+use Rattle.dali_progress.proofs.Below.{SurveyEndsWell, IsSurveyDone, IsUnseen, NamesAll, table_at, IsSettled, Succeeds, HasEnded, IsAlone, IsSettledAt, bare}
+use Rattle.dali_progress.proofs.Below.{most_frames, BySurvey}
+use Rattle.std.proofs.lemmas.List.{append-nil}
 use Rattle.dali_script.specs.declared.orders.Input.TheVariants as input
 use Rattle.dali_script.specs.declared.stage.Stage.TheVariants as stage
-use Rattle.dali_controller.specs.Course.{Course}
-use Rattle.dali_controller.specs.Machine.{Machine, machine_heard, machine_committed, machine_surveying, machine_told, silent_after, heard_after, asked_after}
-use Rattle.dali_controller.specs.{Next.next_course, Next.begins_at, Next.at_rest, Next.beginning, Orders.Contradicts, Orders.machine_ordered}
-use Rattle.dali_controller.specs.{Orders.machine_after, Shorts.has_short, Whole.IsWhole, declared.purpose.Purpose.Purpose}
-use Rattle.dali_controller.specs.declared.purpose.Purpose.TheVariants.{Opening, Probing, Hunting, Visiting, Resolving, Closing, Asking, Calling, Drawing}
-use Rattle.dali_controller.{specs.declared.purpose.Purpose.TheVariants.PassingOver, specs.declared.shorts.Shorts.Shorts, proofs.Given.IsGivenBy}
 use Rattle.dali_controller.proofs.Given as given
-use Rattle.dali_events.specs.{Allowed.Allowed, Allowed.IsUp, Happens.happens, Happens.entry, Happens.trace_running, Laws.FindingsAgree, Laws.HasFound}
-use Rattle.dali_events.specs.{Promise.KeepsPromiseNow, Runs.IsRun, Wanted.gear_of, World.World, World.Controller, World.controller_at}
-use Rattle.dali_events.proofs.Invariant.{Agreeing.findings_agree_in, Safe.keeps_promise, Safe.holds_after, Safe.reserved_number}
-use Rattle.dali_events.proofs.Search.Leaving.{SameCore}
 use Rattle.dali_events.specs.declared.event.Event.TheVariants as event
-use Rattle.dali_standing.specs.Seats.{IsFound, informed_by}
-use Rattle.dali_world.specs.Site.{SiteState, world, site_logged, machine_at}
-use Rattle.dali_progress.specs.Ends.{AreTabled, SurveyEndsWell, IsSurveyDone, IsUnseen, NamesAll, table_at}
-use Rattle.dali_progress.specs.Rounds.{IsSettled, Succeeds, HasEnded, IsAlone, IsSettledAt, bare, most_frames, BySurvey}
 use Rattle.dali_progress.proofs.Along.{Measure, Goes, slack_at, Argument, Runs, held_ended, runs_first, with_left, HoldsBy, holds_next, acts_from}
 use Rattle.dali_progress.proofs.Both.{never_eight, not_free, no_tries, addresses_by, put_no_enrolment, IsKnown, taken_of, lawful_now, no_enrolment_yet}
-use Rattle.dali_progress.proofs.{Census.Asked.sending_of, Frames.Seeks, Logged.world_logged, Logged.drawn_now, Logged.kept_now, Logged.block_now}
-use Rattle.dali_progress.proofs.Lone.{IsLone, Moment, IsDueOf, due_of, heard_kept, acted_there, sent_there, lone_acted, lone_sent, acts_by, Rests}
-use Rattle.dali_progress.proofs.{Stands.Sends, Stands.sends_of, Survey.Begins.IsPut, Survey.Begins.IsNext, Survey.Begins.asks_on}
-use Rattle.dali_progress.proofs.Survey.{Drawn.numbered_of, Drawn.drew_apart, Kept.committed, Kept.begins_less, Kept.spared, Kept.spared_few, Kept.survey_slack}
-use Rattle.dali_progress.proofs.Survey.Queried.{OneShort, IsTrue, below_none, IsAtHand, AreOwned, IsPassed, core_self, unseen, unseen_was}
-use Rattle.dali_progress.proofs.Survey.{Sent.SurveySent, Sent.survey_sent, Stands.Begun, Stands.survey_frames, Stands.SurveyAt, Stands.SurveyStands}
-use Rattle.dali_progress.proofs.Survey.{Stands.SurveyEnds, Turns.IsUncontradicted, Visits.turned}
-use Rattle.dali_progress.proofs.Surveying.{quiet_roll, quiet_draw, quiet_asked}
+use Rattle.dali_progress.proofs.{Census.Asked.sending_of, Frames.Seeks, Logged.{world_logged, drawn_now, kept_now, block_now}, Lone.{IsLone, Moment, IsDueOf}}
+use Rattle.dali_progress.proofs.{Lone.{due_of, heard_kept, acted_there, sent_there, lone_acted, lone_sent, acts_by, Rests}, Stands.{Sends, sends_of}}
+use Rattle.dali_progress.proofs.{Survey.Begins.{IsPut, IsNext, asks_on}, Survey.Drawn.{numbered_of, drew_apart}, Survey.Visits.{committed, begins_less, spared}}
+use Rattle.dali_progress.proofs.{Survey.Visits.{spared_few, survey_slack, turned}, Survey.Queried.{OneShort, IsTrue, below_none, IsAtHand, AreOwned, IsPassed}}
+use Rattle.dali_progress.proofs.{Survey.Queried.{core_self, unseen, unseen_was}, Survey.Sent.{SurveySent, survey_sent}, Survey.Stands.{Begun, survey_frames}}
+use Rattle.dali_progress.proofs.{Survey.Stands.{SurveyAt, SurveyStands, SurveyEnds}, Survey.Turns.IsUncontradicted, Surveying.{quiet_roll, quiet_draw}}
+use Rattle.dali_progress.proofs.{Surveying.quiet_asked}
 
 -- A SURVEY GOES ON, event by event.
 
@@ -166,8 +151,8 @@ first_acts start m o gs left told last g one holds v =
     let begins : o ≡ beginning (next_course (machine_surveying m)) =
     given.begins_free (machine_surveying m) o g v.free (no_enrolment_yet m.last last) (never_eight m.tries v.tries) in (
       asks_on start (machine_surveying m) o 0 gs left (record {
-        tries = v.tries;
-        silent = v.silent;
+        untried = v.tries;
+        loud = v.silent;
         smooth = record { way = refl; passed = refl; unmissed = refl };
       }) begins
           (ap (begins_at (machine_surveying m)) at ∙ ap (at_rest (machine_surveying m)) last)
@@ -269,10 +254,12 @@ stands_heard : (start : Begun) (m : Machine) (f : Forward) (h : Answer) (gs : Li
     → (sent : SurveySent m.course.purpose (stage_of m.trace) m.kept m.heard m.asked m.course start gs numbers left (command_of f) h)
     → SurveyStands true start (machine_heard m (Some f) h) (row_after Everyone (command_of f) 0 gs numbers) sent.0
 stands_heard start m f h gs numbers left st lawful sent = record {
-  tries = no_tries _ m.tries st.tries;
-  silent = rw (more, st.silent) (never_silent true m.course.purpose (next_stage (stage_of m.trace) (command_of f) h) m.kept _ _ m.course m.course.opened
-      start (row_after Everyone (command_of f) 0 gs numbers) sent.0 sent.2);
-  smooth = st.smooth;
+  calm = record {
+    untried = no_tries _ m.tries st.calm.untried;
+    loud = rw (more, st.calm.loud) (never_silent true m.course.purpose (next_stage (stage_of m.trace) (command_of f) h) m.kept _ _ m.course m.course.opened
+        start (row_after Everyone (command_of f) 0 gs numbers) sent.0 sent.2);
+    smooth = st.calm.smooth;
+  };
   trace = subst (λ s. IsTrace s (m.trace ++ entry f h ∷ [])) (sym more) (trace_more (stage_of m.trace) m.trace f h lawful st.trace);
   at = subst (λ s. SurveyAt true m.course.purpose s m.kept (heard_after m.course.purpose s h m.heard) (asked_after m.course.purpose s h m.asked) m.course start
       (row_after Everyone (command_of f) 0 gs numbers) sent.0) (sym more) sent.2;

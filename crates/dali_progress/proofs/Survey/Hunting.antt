@@ -1,36 +1,25 @@
-use Rattle.std.proofs.Common.{◌≡◌, ℕ, ◌+◌, ◌*◌, ◌<◌, ◌≤◌, inl, inr, Bool, true, false, zero, suc, List, refl, sym, ap, subst, ◌∙◌, arith, Option, Some, None}
-use Rattle.std.proofs.Common.{◌==◌, ◌&&◌, nat_lt, if◌then◌else◌, is_some}
-use Rattle.std.{proofs.lemmas.Bool.Decides.nat_tests, specs.List.count_by}
-use Rattle.dali_frame.specs.{Priority.LATER, Random.MASK24}
-use Rattle.dali_frame.specs.declared.{frames.Answer.Answer, frames.Forward.Forward, numbers.SearchAddress.SearchAddress}
-use Rattle.dali_special.specs.{Command.frame_of, declared.command.Command.Command}
-use Rattle.dali_gear.specs.Gear.{Gear}
-use Rattle.dali_script.specs.{Stages.stage_of, declared.orders.End.TheVariants.BlockFull}
-use Rattle.dali_script.specs.declared.{orders.End.TheVariants.GaveUp, orders.Order.Order, orders.Order.TheVariants.Put, stage.Stage.Stage}
+use Rattle.dali_progress.proofs.Below.{◌≡◌, ℕ, ◌+◌, ◌*◌, ◌<◌, ◌≤◌, inl, inr, Bool, true, false, zero, suc, List, refl, sym, ap, subst, ◌∙◌, arith, Option, Some}
+use Rattle.dali_progress.proofs.Below.{None, ◌==◌, ◌&&◌, nat_lt, if◌then◌else◌, is_some, nat_tests, count_by, LATER, MASK24, Answer, Forward, SearchAddress}
+use Rattle.dali_progress.proofs.Below.{frame_of, Command, Gear, stage_of, BlockFull, GaveUp, Order, Put, Stage, Ascent, asked_next, ascended, leads_to}
+use Rattle.dali_progress.proofs.Below.{asking_next, room_left, Again, Found, Nobody, Course, is_yes, least_open, sought, byte_to_send, next_unfinished}
+use Rattle.dali_progress.proofs.Below.{searching_first, asking_again, turn_of, bytes_to_send, hunting, hunted, visiting, calling, drawing}
+use Rattle.dali_progress.proofs.Below.{closing as closing_by, Machine, next_course, begins_at, beginning, has_open, hunted_to, is_hunting, question, asks_again}
+use Rattle.dali_progress.proofs.Below.{full, undrawn, nobody_left, compared_in, asked_on, course_on, machine_ordered, asked_by, Hunting, IsGivenBy}
+use Rattle.dali_progress.proofs.Below.{IsNoEnrolment, HasShort, IsOpened, NoneNamed, gear_of, is_wanted, is_bare, OfPowered, AreTabled, IsSettled}
+use Rattle.dali_search.specs.Questions.{Asking}
+use Rattle.dali_search.specs.declared.step.Step.{Step}
 use Rattle.dali_script.specs.declared.stage.Stage.TheVariants as stage
-use Rattle.dali_search.specs.Ascending.{Ascent, asked_next, ascended, leads_to}
-use Rattle.dali_search.specs.Questions.{Asking, asking_next, room_left}
-use Rattle.dali_search.specs.declared.step.Step.{Step, TheVariants.Again, TheVariants.Found, TheVariants.Nobody}
 use Rattle.dali_search.specs.Questions as questions
-use Rattle.dali_controller.specs.Course.{Course, is_yes, least_open, sought, byte_to_send, next_unfinished, searching_first, asking_again, turn_of}
-use Rattle.dali_controller.specs.Course.{bytes_to_send, hunting, hunted, visiting, calling, drawing, closing as closing_by}
-use Rattle.dali_controller.specs.{Machine.Machine, Next.next_course, Next.begins_at, Next.beginning}
-use Rattle.dali_controller.specs.Next.{has_open, hunted_to, is_hunting, question, asks_again, full, undrawn, nobody_left, compared_in, asked_on, course_on}
-use Rattle.dali_controller.specs.{Orders.machine_ordered, Orders.asked_by, declared.purpose.Purpose.TheVariants.Hunting}
-use Rattle.dali_controller.proofs.Given.{IsGivenBy, IsNoEnrolment}
 use Rattle.dali_controller.proofs.Given as given
-use Rattle.dali_events.specs.{Searching.HasShort, Wanted.IsOpened, Wanted.NoneNamed, Wanted.gear_of, Wanted.is_wanted, Wanted.is_bare, Wanted.OfPowered}
 use Rattle.dali_events.proofs.Search.Opened as opening
 use Rattle.dali_events.proofs.Search.Wanted as wanted
-use Rattle.dali_progress.specs.{Ends.AreTabled, Rounds.IsSettled}
-use Rattle.dali_progress.proofs.{Both.never_eight, Both.visits_first, Frames.value_sought, Stands.search_frames}
-use Rattle.dali_progress.proofs.Survey.Begins.{Calm, IsNext, IsHunted, calm_of, smooth_as, first_by, hunts_by, hunts_first, hunted_some, called_roll, all_taken}
-use Rattle.dali_progress.proofs.Survey.Drawn.{those_drawn, is_undrawn, is_lost, bare_split, drawn_tabled, tabled_drawn, kept_at, drawn_length, undrawn_random}
-use Rattle.dali_progress.proofs.Survey.Queried.{unseen}
-use Rattle.dali_progress.proofs.Survey.Rising.{bytes_same, Answered, answered_rise, rises_new, rises_in, IsReachedAt, rise_found, rise_nobody}
-use Rattle.dali_progress.proofs.Survey.Stands.{Begun, IsFirstDraw, IsCalledFor, Draws, called_after, hunted_after, roll_frames, frames_after, Rises, Hunts}
-use Rattle.dali_progress.proofs.Survey.{Stands.IsSmooth, Stands.SurveyStands, Turns.found_at, Woken.AreLow, Woken.none_bare, Woken.opened_lost, Woken.drawn_is}
-use Rattle.dali_progress.proofs.{Survey.Woken.drawn_none_named, Surveying.NoneDrawn, Surveying.draw_left, Surveying.roll_first, Surveying.IsClear}
+use Rattle.dali_progress.proofs.{Both.{never_eight, visits_first}, Frames.value_sought, Stands.search_frames, Survey.Stands.{Calm, IsHunted, Begun}}
+use Rattle.dali_progress.proofs.Survey.Stands.{IsCalledFor, Draws, called_after, hunted_after, roll_frames, frames_after, Rises, Hunts, IsSmooth, SurveyStands}
+use Rattle.dali_progress.proofs.{Survey.Begins.{IsNext, first_by, hunts_by, hunts_first, hunted_some, called_roll, all_taken, GoesTo}, Survey.Drawn.those_drawn}
+use Rattle.dali_progress.proofs.Survey.Drawn.{is_undrawn, is_lost, bare_split, drawn_tabled, tabled_drawn, kept_at, drawn_length, undrawn_random}
+use Rattle.dali_progress.proofs.{Survey.Queried.unseen, Survey.Rising.{bytes_same, Answered, answered_rise, rises_new, rises_in, IsReachedAt, rise_found}}
+use Rattle.dali_progress.proofs.{Survey.Rising.rise_nobody, Survey.Turns.found_at, Survey.Woken.{none_bare, opened_lost, drawn_is, drawn_none_named}}
+use Rattle.dali_progress.proofs.Surveying.{NoneDrawn, draw_left, roll_first, IsClear}
 
 -- A CONTROLLER THAT SURVEYS ACTS, while gear draw, and while it searches.
 
@@ -44,12 +33,12 @@ drawn_frames (suc n) zero bare left same none there enough = omega (arith, same,
 
 pub drawn_turns : (start : Begun) (t : Machine) (o : Order) (gs : List Gear) (left : ℕ) → IsGivenBy t o → SurveyStands true start t gs left
     → IsNoEnrolment t.last → stage_of t.trace ≡ stage.Opened → Draws stage.Opened t.kept t.heard t.course start gs left
-    → IsNext start (machine_ordered t o) o gs left
+    → GoesTo start t o gs left
 drawn_turns start t o gs left g st last is v =
-    hunts_first start t o t.course gs left (calm_of start t gs left st)
-    (given.begins_after t o stage.Opened g is tt (found_at start t gs left stage.Opened st is) last (never_eight t.tries st.tries))
-    (ap (begins_at t) is ∙ ap (λ y. searching_first y t.course) st.smooth.way) st.smooth
-    (record { opened = v.opened_is; loud = v.loud; first = λ some. absurd (omega (arith, some, none)); low = v.draw.low })
+    hunts_first start t o t.course gs left st.calm
+    (given.begins_after t o stage.Opened g is tt (found_at start t gs left stage.Opened st is) last (never_eight t.tries st.calm.untried))
+    (ap (begins_at t) is ∙ ap (λ y. searching_first y t.course) st.calm.smooth.way) st.calm.smooth
+    (record { opened_is = v.opened_is; loud = v.loud; first = λ some. absurd (omega (arith, some, none)); low = v.draw.low })
     v.somebody v.clear v.settled ready unnamed
     (tabled_drawn (unseen start.gear) t.kept.enrolled gs v.tabled)
     (drawn_frames (count_by is_wanted (those_drawn gs)) (count_by is_lost gs) (count_by is_bare gs) left
@@ -124,11 +113,8 @@ nothing_open t e = go (least_open t.kept t.heard) e where
 -- what is known when a hunt is over
 record IsOver (start : Begun) (t : Machine) (h : Answer) (gs : List Gear) (left : ℕ) : Type 0 where
   smooth : IsSmooth t.course
-  opened : t.course.opened ≡ true
-  loud : t.course.tally.is_silent ≡ false
-  first : IsFirstDraw t.course.tally gs
+  hunted : IsHunted t.course gs
   called : t.course.ascent.found ≡ 0 → 0 < count_by is_bare gs
-  low : AreLow gs
   clear : IsClear t.kept t.heard
   settled : IsSettled start.kept → IsSettled t.kept
   all : OfPowered (those_drawn gs) HasShort
@@ -147,7 +133,7 @@ vain_next t h a b next free few =
 -- no gear was found: those that never drew do, or no address is open
 vain_over : (start : Begun) (t : Machine) (o : Order) (h : Answer) (r : SearchAddress) (room : ℕ) (gs : List Gear) (left : ℕ) → Calm t
     → o ≡ question (next_course t) r room → next_course t ≡ undrawn t (hunted t.course h) → t.course.ascent.found ≡ 0 → IsOver start t h gs left
-    → IsNext start (machine_ordered t o) o gs left
+    → GoesTo start t o gs left
 vain_over start t o h r room gs left calm asks next none v = go (has_open t) refl where
   whole_table : AreTabled (unseen start.gear) t.kept.enrolled gs
   whole_table = drawn_tabled (unseen start.gear) t.kept.enrolled gs v.tabled
@@ -159,7 +145,7 @@ vain_over start t o h r room gs left calm asks next none v = go (has_open t) ref
   lost = let parts = bare_split gs in let nobody = none_bare (those_drawn gs) v.all in omega (arith, parts, nobody)
 
   undrawn_yet : t.course.tally.draws ≡ 0
-  undrawn_yet = v.first (subst (λ n. 0 < n) lost some)
+  undrawn_yet = v.hunted.first (subst (λ n. 0 < n) lost some)
 
   after : (m n l : ℕ) → m ≡ 0 → n ≡ 0 → 1 + hunted_after (m + n) l ≤ left → 106 * l + 34 ≤ left
   after zero zero l one two enough = omega (arith, enough)
@@ -173,14 +159,14 @@ vain_over start t o h r room gs left calm asks next none v = go (has_open t) ref
   draws : nat_lt t.course.tally.draws 3 ≡ true
   draws = ap (λ n. nat_lt n 3) undrawn_yet
 
-  go : (b : Bool) → has_open t ≡ b → IsNext start (machine_ordered t o) o gs left
+  go : (b : Bool) → has_open t ≡ b → GoesTo start t o gs left
   go true is =
       first_by start t o (drawing (hunted t.course h)) gs left calm (begins_by t o (drawing (hunted t.course h)) r room asks drawn refl) drawn
-      (record { way = v.smooth.way; passed = v.smooth.passed; unmissed = v.smooth.unmissed })
+      v.smooth
       (record {
-        opened_is = v.opened;
-        draw = record { stage_is = tt; drawn = (none_but gs v.all, refl); gear = λ k in_row on. tt; low = v.low };
-        loud = v.loud;
+        opened_is = v.hunted.opened_is;
+        draw = record { stage_is = tt; drawn = (none_but gs v.all, refl); gear = λ k in_row on. tt; low = v.hunted.low };
+        loud = v.hunted.loud;
         somebody = some;
         clear = v.clear;
         settled = v.settled;
@@ -196,7 +182,7 @@ vain_over start t o h r room gs left calm asks next none v = go (has_open t) ref
   go false is =
       first_by start t o (closing_by (hunted t.course h) BlockFull) gs left calm
       (begins_by t o (closing_by (hunted t.course h) BlockFull) r room asks closes refl) closes
-      (record { way = v.smooth.way; passed = v.smooth.passed; unmissed = v.smooth.unmissed })
+      v.smooth
       (record {
         stage_is = tt;
         well = (some, all_taken t.kept t.heard (nothing_open t is));
@@ -214,20 +200,20 @@ vain_over start t o h r room gs left calm asks next none v = go (has_open t) ref
 -- some gear was: the roll is called
 found_over : (start : Begun) (t : Machine) (o : Order) (h : Answer) (r : SearchAddress) (room : ℕ) (gs : List Gear) (left : ℕ) → Calm t
     → o ≡ question (next_course t) r room → next_course t ≡ calling (hunted t.course h) → 0 < t.course.ascent.found → IsOver start t h gs left
-    → IsNext start (machine_ordered t o) o gs left
+    → GoesTo start t o gs left
 found_over start t o h r room gs left calm asks next some v =
     first_by start t o (calling (hunted t.course h)) gs left calm (begins_by t o (calling (hunted t.course h)) r room asks next refl) next
-    (record { way = v.smooth.way; passed = v.smooth.passed; unmissed = v.smooth.unmissed })
+    v.smooth
     (record {
-      opened_is = v.opened;
+      opened_is = v.hunted.opened_is;
       roll = roll_first gs;
-      quiet = λ silent. absurd (let both : true ≡ false = sym silent ∙ v.loud in cc);
-      first = v.first;
+      quiet = λ silent. absurd (let both : true ≡ false = sym silent ∙ v.hunted.loud in cc);
+      first = v.hunted.first;
       clear = v.clear;
       settled = v.settled;
       tabled = drawn_tabled (unseen start.gear) t.kept.enrolled gs v.tabled;
       frames = subst (λ b. roll_frames b (count_by is_bare (those_drawn gs)) (count_by is_lost gs) ≤ left + 0)
-          (sym v.loud)
+          (sym v.hunted.loud)
           (subst (λ n. n ≤ left + 0)
           (sym (called_roll (count_by is_bare (those_drawn gs)) (count_by is_lost gs) (none_bare (those_drawn gs) v.all)))
           (count (called_after (count_by is_lost gs))
@@ -244,7 +230,7 @@ found_over start t o h r room gs left calm asks next some v =
 
 hunt_over : (start : Begun) (t : Machine) (o : Order) (h : Answer) (r : SearchAddress) (room : ℕ) (gs : List Gear) (left : ℕ) → Calm t
     → o ≡ question (next_course t) r room → next_course t ≡ nobody_left t (hunted t.course h) → IsOver start t h gs left
-    → IsNext start (machine_ordered t o) o gs left
+    → GoesTo start t o gs left
 hunt_over start t o h r room gs left calm asks next v = go ((hunted t.course h).ascent.found == 0) refl where
   same : (hunted t.course h).ascent.found ≡ t.course.ascent.found
   same = found_same t.course.ascent (is_yes h)
@@ -255,7 +241,7 @@ hunt_over start t o h r room gs left calm asks next v = go ((hunted t.course h).
   some : (n : ℕ) → (n == 0) ≡ false → 0 < n
   some n e = grind (arith, nat_tests, e)
 
-  go : (b : Bool) → ((hunted t.course h).ascent.found == 0) ≡ b → IsNext start (machine_ordered t o) o gs left
+  go : (b : Bool) → ((hunted t.course h).ascent.found == 0) ≡ b → GoesTo start t o gs left
   go true is = vain_over start t o h r room gs left calm asks (by true is) (sym same ∙ wanted.same_number (hunted t.course h).ascent.found 0 is) v
   go false is = found_over start t o h r room gs left calm asks (by false is) (subst (λ n. 0 < n) same (some (hunted t.course h).ascent.found is)) v
 
@@ -275,13 +261,11 @@ goes_on : (start : Begun) (t : Machine) (o : Order) (h : Answer) (r : SearchAddr
     → t.course.purpose ≡ Hunting → stage_of t.trace ≡ stage.Hunted r (Some h) room → next_course t ≡ hunting (hunted t.course h)
     → o ≡ Put LATER (frame_of (byte_to_send (hunting (hunted t.course h)).number r))
     → Hunts false Hunting (stage.Hunted r (Some h) room) t.kept t.heard (hunting (hunted t.course h)) start gs left
-    → IsNext start (machine_ordered t o) o gs left
-goes_on start t o h r room gs left st purpose is next sends v = subst (λ q. IsNext start (machine_ordered t q) q gs left) (sym sends)
+    → GoesTo start t o gs left
+goes_on start t o h r room gs left st purpose is next sends v = subst (λ q. GoesTo start t q gs left) (sym sends)
     (subst (λ m. IsNext start m (Put LATER (frame_of c)) gs left) (sym (later_asked t h r room (frame_of c) purpose is next)) (
       record {
-        tries = st.tries;
-        silent = st.silent;
-        smooth = smooth_as t.course (hunting (hunted t.course h)) refl refl st.smooth;
+        calm = st.calm;
         trace = st.trace;
         at = subst (λ s. Hunts false Hunting s t.kept t.heard (hunting (hunted t.course h)) start gs left) (sym is) v;
       },
@@ -301,7 +285,7 @@ asked_where t o h r room b asks next fits =
 pub hunting_turns : (start : Begun) (t : Machine) (o : Order) (s : Stage) (gs : List Gear) (left : ℕ) → IsGivenBy t o → SurveyStands true start t gs left
     → t.course.purpose ≡ Hunting → stage_of t.trace ≡ s → (s ≡ stage.Free → ⊥)
     → Hunts true Hunting s t.kept t.heard t.course start gs left → turn_of Hunting t.course.number s ≡ None
-    → IsNext start (machine_ordered t o) o gs left
+    → GoesTo start t o gs left
 hunting_turns start t o stage.Free gs left g st purpose is running v over = absurd (running refl)
 hunting_turns start t o (stage.HighSent high) gs left g st purpose is running v over = absurd (cc)
 hunting_turns start t o (stage.LowSent high low) gs left g st purpose is running v over = absurd (cc)
@@ -343,9 +327,6 @@ hunting_turns start t o (stage.Hunted r (Some h) room) gs left g st purpose is r
   called : IsCalledFor Hunting (hunted t.course h).ascent gs
   called none = v.called (sym found ∙ none)
 
-  hunted_so : IsHunted (hunted t.course h) gs
-  hunted_so = record { opened = v.opened_is; loud = v.loud; first = v.first; low = v.low }
-
   after : frames_after Hunting t.course.ascent gs ≡ frames_after Hunting (hunted t.course h).ascent gs
   after = ap (λ n. hunted_after (n + count_by is_wanted (those_drawn gs)) (count_by is_lost gs)) (sym found)
 
@@ -356,16 +337,13 @@ hunting_turns start t o (stage.Hunted r (Some h) room) gs left g st purpose is r
   frames = plain v.rest (frames_after Hunting t.course.ascent gs) v.behind v.behind_is v.frames
 
   again : (b : Bool) → questions.has_room (asking_next p.before (asked_next t.course.ascent)) (asked_next (ascended t.course.ascent (is_yes h))) ≡ b
-      → leads_to (ascended t.course.ascent (is_yes h)) ≡ Again → IsNext start (machine_ordered t o) o gs left
+      → leads_to (ascended t.course.ascent (is_yes h)) ≡ Again → GoesTo start t o gs left
   again true some e =
       goes_on start t o h r room gs left st purpose is (next Again e)
       (asked_where t o h r room true asks (next Again e) (fits ∙ some))
       (record {
-        opened_is = v.opened_is;
-        loud = v.loud;
-        first = v.first;
+        hunted = v.hunted;
         called = called;
-        low = v.low;
         clear = v.clear;
         settled = v.settled;
         rest = v.rest;
@@ -376,25 +354,22 @@ hunting_turns start t o (stage.Hunted r (Some h) room) gs left g st purpose is r
         frames = subst (λ n. v.rest + 0 + n ≤ left + 5 * v.behind) after v.frames;
       })
   again false none e =
-      hunts_by start t o (hunted t.course h) v.rest gs left (calm_of start t gs left st)
+      hunts_by start t o (hunted t.course h) v.rest gs left st.calm
       (asked_where t o h r room false asks (next Again e) (fits ∙ none)) (next Again e)
-      (smooth_as t.course (hunted t.course h) refl refl st.smooth) hunted_so called v.clear v.settled
+      st.calm.smooth v.hunted called v.clear v.settled
       (rises_new now asking (those_drawn gs) v.rest answered e none) v.tabled
       (subst (λ n. v.rest + n ≤ left) after frames)
 
-  go : (s : Step) → leads_to (ascended t.course.ascent (is_yes h)) ≡ s → IsNext start (machine_ordered t o) o gs left
+  go : (s : Step) → leads_to (ascended t.course.ascent (is_yes h)) ≡ s → GoesTo start t o gs left
   go Again e = again (questions.has_room asking (asked_next now)) refl e
   go (Found m) e =
       let there : IsReachedAt now m (those_drawn gs) v.rest = rise_found now asking (those_drawn gs) v.rest m answered e in
-      first_by start t o (visiting (hunted t.course h) m) gs left (calm_of start t gs left st)
+      first_by start t o (visiting (hunted t.course h) m) gs left st.calm
       (begins_by t o (visiting (hunted t.course h) m) r room asks (next (Found m) e) refl) (next (Found m) e)
-      (smooth_as t.course (visiting (hunted t.course h) m) refl refl st.smooth)
+      st.calm.smooth
       (record {
-        opened_is = v.opened_is;
-        loud = v.loud;
-        first = v.first;
+        hunted = v.hunted;
         called = tt;
-        low = v.low;
         clear = v.clear;
         settled = λ e x has. inl (v.settled e x has);
         rest = 11 + search_frames there.more;
@@ -423,14 +398,11 @@ hunting_turns start t o (stage.Hunted r (Some h) room) gs left g st purpose is r
       count rest more after need enough = omega (arith, need, enough)
   go Nobody e =
       let none = rise_nobody now asking (those_drawn gs) v.rest answered e in
-      hunt_over start t o h r room gs left (calm_of start t gs left st) asks (next Nobody e)
+      hunt_over start t o h r room gs left st.calm asks (next Nobody e)
       (record {
-        smooth = st.smooth;
-        opened = v.opened_is;
-        loud = v.loud;
-        first = v.first;
+        smooth = st.calm.smooth;
+        hunted = v.hunted;
         called = v.called;
-        low = v.low;
         clear = v.clear;
         settled = v.settled;
         all = none.0;

@@ -1,26 +1,15 @@
-use Rattle.std.proofs.Common.{◌≡◌, ℕ, ◌<◌, ◌≤◌, inl, inr, Bool, true, false, List, refl, sym, subst, arith, length, Option, Some, None, ◌⊎◌, if◌then◌else◌}
-use Rattle.std.proofs.Common.{◌==◌, ◌&&◌, not, is_some, nat_le}
-use Rattle.std.{proofs.lemmas.Bool.Decides.nat_tests, specs.List.count_by}
-use Rattle.dali_frame.specs.Random.{MASK24}
-use Rattle.dali_frame.specs.declared.{frames.Answer.Answer, frames.Answer.TheVariants.Silence, frames.Forward.Forward, numbers.SearchAddress.SearchAddress}
-use Rattle.dali_special.specs.Command.{command_of}
-use Rattle.dali_special.specs.declared.command.Command.{Command, TheVariants.Randomise, TheVariants.Program}
-use Rattle.dali_gear.specs.{Gear.Gear, Gear.is_active, Gear.is_found, Gear.gear_taken, Row.row_after, Row.row_left, Row.draws_needed}
-use Rattle.dali_gear.{specs.declared.row.Reach.TheVariants.Everyone, proofs.RowLemmas.needs_none}
-use Rattle.dali_script.specs.{Records.Kept, Stages.stage_of, Stages.next_stage, declared.orders.Order.TheVariants.Put, declared.stage.Stage.Stage}
-use Rattle.dali_script.proofs.Transactions.{stage_more}
+use Rattle.dali_progress.proofs.Below.{◌≡◌, ℕ, ◌<◌, ◌≤◌, inl, inr, Bool, true, false, List, refl, sym, subst, arith, length, Option, Some, None, ◌⊎◌}
+use Rattle.dali_progress.proofs.Below.{if◌then◌else◌, ◌==◌, ◌&&◌, not, is_some, nat_le, nat_tests, count_by, MASK24, Answer, Silence, Forward, SearchAddress}
+use Rattle.dali_progress.proofs.Below.{command_of, Command, Randomise, Program, Gear, is_active, is_found, gear_taken, row_after, row_left, draws_needed}
+use Rattle.dali_progress.proofs.Below.{Everyone, needs_none, Kept, stage_of, next_stage, Put, Stage, stage_more, Course, Machine, heard_after, asked_after}
+use Rattle.dali_progress.proofs.Below.{IsWhole, Purpose, Hunting, Visiting, Closing, Asking, Calling, Drawing, Shorts, entry, block_at, gear_of, is_bare}
+use Rattle.dali_progress.proofs.Below.{row_length, AreOpening, after_at, both_pass, number_same, world}
 use Rattle.dali_script.specs.declared.stage.Stage.TheVariants as stage
-use Rattle.dali_controller.specs.{Course.Course, Machine.Machine, Machine.heard_after, Machine.asked_after, Whole.IsWhole, declared.purpose.Purpose.Purpose}
-use Rattle.dali_controller.specs.declared.purpose.Purpose.TheVariants.{Hunting, Visiting, Closing, Asking, Calling, Drawing}
-use Rattle.dali_controller.specs.declared.shorts.Shorts.{Shorts}
-use Rattle.dali_events.specs.{Happens.entry, Plan.block_at, Wanted.gear_of, Wanted.is_bare}
-use Rattle.dali_events.proofs.{Invariant.Takes.row_length, Search.Opened.AreOpening, Search.Wanted.after_at, Search.Wanted.both_pass, Search.Wanted.number_same}
-use Rattle.dali_world.specs.Site.{world}
-use Rattle.dali_progress.proofs.Both.{left_same, none_first, none_apart, is_complete, DrawsOnce, draws_few, closed_none, IsDry, is_unnamed, names_sent}
-use Rattle.dali_progress.proofs.{Gives.bare_fewer, Gives.frame_gives, Stands.Sends, Survey.Begins.IsNext, Survey.Drawn.is_lost, Survey.Drawn.count_nothing}
-use Rattle.dali_progress.proofs.Survey.{Goes.Hears, Goes.of_survey, Goes.sends_now, Stands.Begun, Stands.Draws, Stands.SurveyAt, Woken.count_there}
-use Rattle.dali_progress.proofs.{Survey.Woken.opened_lost, Surveying.NoneDrawn, Surveying.woken_at, Tables.LeavesNames}
 use Rattle.dali_progress.proofs.Drawing as drawn
+use Rattle.dali_progress.proofs.Both.{left_same, none_first, none_apart, is_complete, DrawsOnce, draws_few, closed_none, IsDry, is_unnamed, names_sent}
+use Rattle.dali_progress.proofs.{Gives.{bare_fewer, frame_gives}, Stands.Sends, Survey.Begins.IsNext, Survey.Drawn.{is_lost, count_nothing}, Survey.Goes.Hears}
+use Rattle.dali_progress.proofs.{Survey.Goes.{of_survey, sends_now}, Survey.Stands.{Begun, Draws, SurveyAt}, Survey.Woken.{count_there, opened_lost}}
+use Rattle.dali_progress.proofs.{Surveying.{NoneDrawn, woken_at}, Tables.LeavesNames}
 
 -- THE NUMBERS THAT GEAR DRAW in a survey: if there is one for each gear with power and without short address, they are never
 -- spent. Gear draw once, if none without short address has a number; afterwards each has one.

@@ -1,13 +1,9 @@
-use Rattle.std.proofs.Common.{◌≡◌, ℕ, ◌+◌, ◌<◌, ◌≤◌, ◌⊎◌, inl, inr, Bool, true, false, zero, suc, List, [], ◌∷◌, refl, sym, ap, subst, ◌∙◌, arith, length}
-use Rattle.std.proofs.Common.{Option, Some, None, ◌==◌, ◌&&◌, not, nat_lt}
-use Rattle.std.{proofs.lemmas.Bool.Decides.nat_tests, proofs.lemmas.List.Folds.list_any_at, specs.List.list_any}
-use Rattle.dali_frame.specs.Random.{MASK24}
-use Rattle.dali_special.specs.declared.command.{Command.TheVariants.RandomByte, Part.Part}
-use Rattle.dali_gear.specs.{Gear.Gear, Gear.fresh, Gear.has_short, Gear.byte_at, Gear.answer_to, Row.answers_of, declared.row.Reach.TheVariants.Everyone}
-use Rattle.dali_script.specs.Records.{Assignment, Has, Kept, IsKept, InBlock}
-use Rattle.dali_events.{specs.Wanted.gear_of, proofs.Search.Heard.none_answer, proofs.Search.Heard.one_answers}
-use Rattle.dali_events.proofs.Search.{Leaving.SameGear, Leaving.SameCore, Wanted.both_pass, Wanted.same_number, Wanted.number_same, Wanted.at_any}
-use Rattle.dali_progress.{specs.Ends.AreTabled, proofs.Survey.Drawn.AreNumbered, proofs.Survey.Drawn.DrewApart}
+use Rattle.dali_progress.proofs.Below.{◌≡◌, ℕ, ◌+◌, ◌<◌, ◌≤◌, ◌⊎◌, inl, inr, Bool, true, false, zero, suc, List, [], ◌∷◌, refl, sym, ap, subst, ◌∙◌, arith}
+use Rattle.dali_progress.proofs.Below.{length, Option, Some, None, ◌==◌, ◌&&◌, not, nat_lt, nat_tests, list_any_at, list_any, MASK24, RandomByte, Part, Gear}
+use Rattle.dali_progress.proofs.Below.{fresh, byte_at, answer_to, answers_of, Everyone, Assignment, Has, Kept, IsKept, InBlock, gear_of, none_answer}
+use Rattle.dali_progress.proofs.Below.{one_answers, SameGear, SameCore, both_pass, same_number, number_same, at_any, AreTabled}
+use Rattle.dali_gear.specs.Gear.{has_short}
+use Rattle.dali_progress.proofs.Survey.Drawn.{AreNumbered, DrewApart}
 
 -- A SHORT ADDRESS IS ASKED FOR ITS RANDOM ADDRESS, of gear no two of which have one short address.
 

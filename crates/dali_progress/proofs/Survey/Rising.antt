@@ -1,26 +1,17 @@
-use Rattle.std.proofs.Common.{◌≡◌, ℕ, ◌+◌, ◌-◌, ◌*◌, ◌<◌, ◌≤◌, ◌⊎◌, inl, inr, Bool, true, false, zero, suc, List, refl, sym, ap, subst, ◌∙◌, arith, nat_lt}
-use Rattle.std.proofs.Common.{Option, Some, None, ◌==◌, if◌then◌else◌}
-use Rattle.std.{proofs.lemmas.Bool.Decides.nat_tests, specs.List.count_by}
-use Rattle.dali_frame.specs.{Random.value_of, Random.MASK24, declared.frames.Answer.Answer, declared.numbers.SearchAddress.SearchAddress}
-use Rattle.dali_special.specs.declared.command.Command.{Command, TheVariants.Compare, TheVariants.SearchHigh, TheVariants.SearchMiddle, TheVariants.SearchLow}
-use Rattle.dali_gear.specs.{Gear.Gear, Row.row_after, declared.row.Reach.TheVariants.Everyone}
-use Rattle.dali_script.specs.{Records.Assignment, Records.Kept, Stages.next_stage, declared.stage.Stage.Stage}
-use Rattle.dali_script.proofs.Transactions.{self, equal}
+use Rattle.dali_progress.proofs.Below.{◌≡◌, ℕ, ◌+◌, ◌-◌, ◌*◌, ◌<◌, ◌≤◌, ◌⊎◌, inl, inr, Bool, true, false, zero, suc, List, refl, sym, ap, subst, ◌∙◌, arith}
+use Rattle.dali_progress.proofs.Below.{nat_lt, Option, Some, None, ◌==◌, if◌then◌else◌, nat_tests, count_by, value_of, MASK24, Answer, SearchAddress, Command}
+use Rattle.dali_progress.proofs.Below.{Compare, SearchHigh, SearchMiddle, SearchLow, Gear, row_after, Everyone, Assignment, Kept, next_stage, Stage, equal}
+use Rattle.dali_progress.proofs.Below.{Ascent, IsAscent, Knows, is_bounded, asked_next, leads_to, ascended, ascent_at_first, above, Gives, Says, bytes_apart}
+use Rattle.dali_progress.proofs.Below.{has_room, frames_to_ask, room_left, asking_next, IsTrueWay, no_question, Again, Found, Nobody, asked_drawn, says_found}
+use Rattle.dali_progress.proofs.Below.{somebody_costs, nobody_costs, first_true, above_true, sought, is_yes, byte_to_send, bytes_to_send, Hunting, HasShort}
+use Rattle.dali_progress.proofs.Below.{is_wanted, wants, OfPowered, IsOpened, NoneNamed, SameCore, AreTabled}
+use Rattle.dali_script.proofs.Transactions.{self}
+use Rattle.dali_search.specs.Questions.{Asking}
 use Rattle.dali_script.specs.declared.stage.Stage.TheVariants as stage
-use Rattle.dali_search.specs.Ascending.{Ascent, IsAscent, Knows, is_bounded, asked_next, leads_to, ascended, ascent_at_first, above}
-use Rattle.dali_search.specs.{Least.Gives, Least.Says, Questions.bytes_apart, Questions.Asking, Questions.has_room, Questions.frames_to_ask}
-use Rattle.dali_search.specs.{Questions.room_left, Questions.asking_next, Questions.IsTrueWay, Questions.no_question, declared.step.Step.TheVariants.Again}
-use Rattle.dali_search.{specs.declared.step.Step.TheVariants.Found, specs.declared.step.Step.TheVariants.Nobody, proofs.Ascents.asked_drawn}
-use Rattle.dali_search.proofs.{Ascents.says_found, TrueAnswers.somebody_costs, TrueAnswers.nobody_costs, TrueAnswers.first_true, TrueAnswers.above_true}
-use Rattle.dali_controller.specs.{Course.sought, Course.is_yes, Course.byte_to_send, Course.bytes_to_send, declared.purpose.Purpose.TheVariants.Hunting}
-use Rattle.dali_events.specs.{Searching.HasShort, Wanted.is_wanted, Wanted.wants, Wanted.OfPowered, Wanted.IsOpened, Wanted.NoneNamed}
-use Rattle.dali_events.proofs.Search.Leaving.{SameCore}
 use Rattle.dali_events.proofs.Search.Leaving as leaving
 use Rattle.dali_events.proofs.Search.Wanted as wanted
-use Rattle.dali_progress.specs.Ends.{AreTabled}
-use Rattle.dali_progress.proofs.Frames.{IsTaken, Seeks, probe_says, value_sought, gives_same, some_is, nobody_short}
-use Rattle.dali_progress.proofs.{Stands.to_come, Stands.Sends, Survey.Drawn.IsSoughtBy, Survey.Stands.pending, Survey.Stands.after_rise}
-use Rattle.dali_progress.proofs.{Survey.Stands.thirds_for, Survey.Stands.RiseStage, Survey.Stands.Rises, Tables.LeavesNames, Tables.tabled_left}
+use Rattle.dali_progress.proofs.{Frames.{IsTaken, Seeks, probe_says, value_sought, gives_same, nobody_short}, Stands.{some_is, to_come, Sends}}
+use Rattle.dali_progress.proofs.{Survey.Drawn.IsSoughtBy, Survey.Stands.{pending, after_rise, thirds_for, RiseStage, Rises}, Tables.{LeavesNames, tabled_left}}
 
 -- THE SEARCH THAT GOES UP, alone and undisturbed: what its questions tell, and what they cost.
 

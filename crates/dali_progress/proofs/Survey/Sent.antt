@@ -1,37 +1,137 @@
-use Rattle.std.proofs.Common.{◌≡◌, ℕ, ◌+◌, ◌*◌, ◌<◌, ◌≤◌, Bool, true, false, zero, suc, List, refl, sym, subst, ◌∙◌, arith, ◌-◌, inl, inr, [], ◌∷◌, ap, Option}
-use Rattle.std.proofs.Common.{Some, None, if◌then◌else◌, ◌%◌, nat_lt, ◌&&◌}
-use Rattle.std.{proofs.lemmas.Bool.Decides.nat_tests, specs.List.count_by}
-use Rattle.dali_frame.specs.{Random.value_of, Random.MASK24, declared.frames.Answer.Answer, declared.frames.Answer.TheVariants.Silence}
-use Rattle.dali_frame.specs.declared.{frames.Answer.TheVariants.Byte, frames.Answer.TheVariants.Damaged, numbers.SearchAddress.SearchAddress}
-use Rattle.dali_special.specs.declared.command.Command.{Command}
-use Rattle.dali_special.specs.declared.command.Command.TheVariants.{Terminate, Withdraw, SearchMiddle, SearchLow, QueryShort, RandomByte}
-use Rattle.dali_special.specs.declared.command.Part.TheVariants.{High, Middle, Low}
-use Rattle.dali_gear.specs.{Gear.Gear, Gear.draws_a_number, Row.row_after, Row.takes, Row.left_after, Row.drawn_one, Row.drawn_of, Row.answers_of, Row.heard_of}
-use Rattle.dali_gear.{specs.declared.row.Reach.TheVariants.Everyone, proofs.RowLemmas.needs_none}
-use Rattle.dali_script.specs.{Records.Kept, Records.Has, Stages.next_stage, Stages.byte_heard, Stages.number_heard, declared.orders.End.End}
-use Rattle.dali_script.specs.declared.orders.End.TheVariants.{AllFound, BlockFull, GaveUp}
-use Rattle.dali_script.{specs.declared.stage.Stage.Stage, proofs.Transactions.middle_next, proofs.Transactions.low_next}
+use Rattle.dali_progress.proofs.Below.{◌≡◌, ℕ, ◌+◌, ◌*◌, ◌<◌, ◌≤◌, inl, inr, true, false, suc, List, refl, sym, ap, subst, ◌∙◌, arith, Bool, zero, ◌-◌, [], ◌∷◌}
+use Rattle.dali_progress.proofs.Below.{Option, Some, None, if◌then◌else◌, ◌%◌, nat_lt, ◌&&◌, nat_tests, count_by, value_of, MASK24, Answer, Silence, Byte}
+use Rattle.dali_progress.proofs.Below.{Damaged, SearchAddress, Command, Withdraw, SearchHigh, SearchMiddle, SearchLow, QueryShort, Terminate, RandomByte, High}
+use Rattle.dali_progress.proofs.Below.{Middle, Low, Gear, draws_a_number, row_after, takes, left_after, drawn_one, drawn_of, answers_of, heard_of, Everyone}
+use Rattle.dali_progress.proofs.Below.{needs_none, Kept, Has, next_stage, queried, verified, byte_heard, number_heard, Stage, End, AllFound, BlockFull, GaveUp}
+use Rattle.dali_progress.proofs.Below.{middle_next, low_next, Ascent, asked_next, Purpose, Visiting, Hunting, Calling, Drawing, Opening, Probing, Resolving}
+use Rattle.dali_progress.proofs.Below.{Closing, Asking, PassingOver, Shorts, Course, sought, heard_after, asked_after, asked_after_silence, asked_at, marked_at}
+use Rattle.dali_progress.proofs.Below.{wants, is_wanted, is_bare, SameCore, LeavesCore, LeavesShort, AreTabled}
+use Rattle.dali_search.specs.Least.{at_first}
 use Rattle.dali_script.specs.declared.stage.Stage.TheVariants as stage
-use Rattle.dali_search.specs.{Ascending.Ascent, Ascending.asked_next, Least.at_first}
-use Rattle.dali_controller.specs.{Course.Course, Course.sought, Machine.heard_after, Machine.asked_after, Machine.asked_after_silence, Machine.asked_at}
-use Rattle.dali_controller.specs.{Machine.marked_at, declared.purpose.Purpose.Purpose}
-use Rattle.dali_controller.specs.declared.purpose.Purpose.TheVariants.{Calling, Drawing, Opening, Probing, Visiting, Resolving, Closing, Asking, Hunting}
-use Rattle.dali_controller.specs.declared.{purpose.Purpose.TheVariants.PassingOver, shorts.Shorts.Shorts}
-use Rattle.dali_events.specs.Wanted.{is_bare, is_wanted}
-use Rattle.dali_events.proofs.Search.Leaving.{SameCore, LeavesCore, LeavesShort}
 use Rattle.dali_events.proofs.Search.Leaving as leaving
-use Rattle.dali_progress.{specs.Ends.AreTabled, proofs.Frames.IsTaken, proofs.Frames.Seeks}
-use Rattle.dali_progress.proofs.{Frames.one_less, Frames.at_sent, Frames.value_sought, Frames.some_is, Stands.Sends, Stands.to_come, Stands.VisitsAt}
-use Rattle.dali_progress.proofs.Survey.{Begins.roll_some, Begins.roll_none, Behind.IsHunt, Behind.least_sent, Behind.behind_sent, Behind.hunt_deep}
-use Rattle.dali_progress.proofs.Survey.Drawn.{those_drawn, is_lost, AreNumbered, IsSearching, IsSoughtBy, not_randomise, row_drawn, answers_drawn, searching_of}
-use Rattle.dali_progress.proofs.Survey.Drawn.{no_draw, still_of, lost_same, seek_drawn, apart_drawn, DrewApart}
-use Rattle.dali_progress.proofs.Survey.Queried.{unseen, core_then, holds_back, IsAtHand, below_on}
-use Rattle.dali_progress.proofs.Survey.Rising.{rises_sent, rising_one, rising_tabled, rising_sought}
-use Rattle.dali_progress.proofs.Survey.Stands.{Begun, roll_frames, Calls, Draws, survey_frames, silent_left, asked_left, Counts, AskCount, called_after}
-use Rattle.dali_progress.proofs.Survey.Stands.{hunted_after, frames_after, IsCalledFor, surplus, IsBehind, HuntAt, Hunts, SurveyEnds, SurveyCloses, SurveyAt}
-use Rattle.dali_progress.proofs.Survey.Woken.{bare_after, lost_after, drew_after, IsByteLow, low_after, all_left}
+use Rattle.dali_events.proofs.Search.Programming as programming
+use Rattle.dali_events.proofs.Search.Withdrawing as withdrawing
+use Rattle.dali_progress.proofs.{Frames.{Seeks, IsTaken, one_less, at_sent, value_sought}, Later.{queried_by, verified_by}, Stands.{search_frames, VisitFrames}}
+use Rattle.dali_progress.proofs.{Stands.{VisitsAt, Sends, visit_by, some_is, to_come}, Survey.Stands.{IsBehind, IsLeastAt, IsReached, HuntAt, Begun}}
+use Rattle.dali_progress.proofs.Survey.Stands.{roll_frames, Calls, Draws, survey_frames, silent_left, asked_left, Counts, AskCount, called_after, hunted_after}
+use Rattle.dali_progress.proofs.{Survey.Stands.{frames_after, IsCalledFor, surplus, Hunts, SurveyEnds, SurveyCloses, SurveyAt}, Survey.Begins.roll_some}
+use Rattle.dali_progress.proofs.{Survey.Begins.roll_none, Survey.Drawn.{those_drawn, is_lost, AreNumbered, IsSearching, IsSoughtBy, not_randomise, row_drawn}}
+use Rattle.dali_progress.proofs.Survey.Drawn.{answers_drawn, searching_of, no_draw, still_of, lost_same, seek_drawn, apart_drawn, DrewApart}
+use Rattle.dali_progress.proofs.{Survey.Queried.{unseen, core_then, holds_back, IsAtHand, below_on}, Survey.Rising.{rises_sent, rising_one, rising_tabled}}
+use Rattle.dali_progress.proofs.{Survey.Rising.rising_sought, Survey.Woken.{bare_after, lost_after, drew_after, IsByteLow, low_after, all_left}}
 use Rattle.dali_progress.proofs.Surveying.{IsTakenBut, RollSent, DrawSent, call_sent, draw_left, roll_sent, draw_sent, draws_short, draws_tabled, AskedAt}
-use Rattle.dali_progress.proofs.{Surveying.asked_sent, Tables.tabled_left, Tables.IsTabledTo, Tables.at_tabled}
+use Rattle.dali_progress.proofs.{Surveying.asked_sent, Tables.{tabled_left, IsTabledTo, at_tabled}}
+
+-- THE GEAR THAT IS VISITED is the least that is wanted; and how many gear are behind: that are counted with more frames than
+-- the search needs for them.
+
+-- of which transactions this is said
+abbrev pub IsHunt : Purpose → Type 0
+IsHunt Hunting = Unit {0}
+IsHunt Visiting = Unit {0}
+IsHunt _ = ⊥
+
+-- ---------------------------------------------------------------- who is visited stays the least
+
+abbrev IsNotLeft : Stage → Type 0
+IsNotLeft t = (q : SearchAddress) (a : ℕ) → t ≡ stage.Withdrawn q a → ⊥
+
+first_query : (r : SearchAddress) (h : Answer) → IsNotLeft (queried r h)
+first_query r h = queried_by IsNotLeft r (λ b q a is. cc) (λ q a is. cc) (λ q a is. cc) (λ o q a is. cc) h
+
+second_query : (r : SearchAddress) (b : ℕ) (h : Answer) → IsNotLeft (verified r b h)
+second_query r b h = verified_by IsNotLeft r b (λ q a is. cc) (λ o q a is. cc) h
+
+least_by : (t : Stage) (n : SearchAddress) (hs : List Gear) → ((m : ℕ) → wants hs m ≡ true → value_of n ≤ m)
+    → IsNotLeft t → IsLeastAt t n hs
+least_by (stage.Withdrawn q a) n hs least never = absurd (never q a refl)
+least_by _ n hs least never = least
+
+least_core : (gs hs : List Gear) (n : SearchAddress) → SameCore gs hs → ((m : ℕ) → wants gs m ≡ true → value_of n ≤ m) → (m : ℕ) → wants hs m ≡ true
+    → value_of n ≤ m
+least_core gs hs n same least m has = least m (sym (leaving.core_wants gs hs m same) ∙ has)
+
+pub least_sent : (s : Stage) (k : Kept) (x : Ascent) (n : SearchAddress) (gs : List Gear) (numbers : List ℕ) (left : ℕ) (c : Command) (h : Answer)
+    → VisitsAt s k n gs left → Sends Visiting n k s c → Seeks s gs → IsReached s x n gs
+    → IsLeastAt (next_stage s c h) n (row_after Everyone c 0 gs numbers)
+least_sent s k x n gs numbers left c h v is seek at =
+    visit_by (λ t d. VisitsAt t k n gs left → Seeks t gs → IsReached t x n gs → IsLeastAt (next_stage t d h) n (row_after Everyone d 0 gs numbers)) n k gs left
+    (λ w by r. least_core gs _ n (leaving.core_after (SearchHigh n.high) gs numbers tt) r.least)
+    (λ high w by r. least_core gs _ n (leaving.core_after (SearchMiddle n.middle) gs numbers tt) r.least)
+    (λ high middle w by r. least_core gs _ n (leaving.core_after (SearchLow n.low) gs numbers tt) r.least)
+    (λ q w by r. least_by (queried q h) n _ (least_core gs _ n (leaving.core_after QueryShort gs numbers tt) r.least) (first_query q h))
+    (λ q a small has w by r m is. r.least m (sym (programming.programmed_wants gs numbers q a m (by q refl)) ∙ is))
+    (λ q a w by r. least_by (verified q a h) n _ (least_core gs _ n (leaving.core_after QueryShort gs numbers tt) r.least) (second_query q a h))
+    (λ q a w by r m has.
+    let was = withdrawing.withdrawn_wants gs numbers q m (by q refl) has in
+    let from : value_of n ≤ m = r.least m was.0 in
+    let other : m ≡ value_of n → ⊥ = λ e. was.1 (e ∙ ap value_of (sym w.searched)) in
+    omega (arith, from, other)) s c v is v seek at
+
+-- ---------------------------------------------------------------- how many gear are behind
+
+behind_by : (t : Stage) (behind : ℕ) (hs : List Gear) (l : ℕ) → count_by is_wanted hs ≡ suc behind
+    → IsNotLeft t → IsBehind Visiting t behind hs l
+behind_by (stage.Withdrawn q a) behind hs l count never = absurd (never q a refl)
+behind_by _ behind hs l count never = count
+
+visit_behind : (s : Stage) (k : Kept) (n : SearchAddress) (gs : List Gear) (numbers : List ℕ) (left l behind : ℕ) (c : Command) (h : Answer) → left ≡ suc l
+    → VisitsAt s k n gs left → Sends Visiting n k s c → Seeks s gs → IsBehind Visiting s behind gs left
+    → IsBehind Visiting (next_stage s c h) behind (row_after Everyone c 0 gs numbers) l
+visit_behind s k n gs numbers left l behind c h less v is seek count =
+    visit_by (λ t d. VisitsAt t k n gs left → Seeks t gs → IsBehind Visiting t behind gs left
+    → IsBehind Visiting (next_stage t d h) behind (row_after Everyone d 0 gs numbers) l) n k gs left
+    (λ w by b. leaving.core_count_wanted gs _ (leaving.core_after (SearchHigh n.high) gs numbers tt) ∙ b)
+    (λ high w by b. leaving.core_count_wanted gs _ (leaving.core_after (SearchMiddle n.middle) gs numbers tt) ∙ b)
+    (λ high middle w by b. leaving.core_count_wanted gs _ (leaving.core_after (SearchLow n.low) gs numbers tt) ∙ b)
+    (λ r w by b. behind_by (queried r h) behind _ l (leaving.core_count_wanted gs _ (leaving.core_after QueryShort gs numbers tt) ∙ b) (first_query r h))
+    (λ r a small has w by b. programming.programmed_count gs numbers r a (by r refl) ∙ b)
+    (λ r a w by b. behind_by (verified r a h) behind _ l (leaving.core_count_wanted gs _ (leaving.core_after QueryShort gs numbers tt) ∙ b)
+    (second_query r a h))
+    (λ r a w by b. (
+      (let fewer : count_by is_wanted (row_after Everyone Withdraw 0 gs numbers) < count_by is_wanted gs =
+          withdrawing.withdrawn_count gs numbers r (by r refl)
+          (subst (λ m. wants gs m ≡ true) (ap value_of (sym w.searched)) w.visited.wanted) in omega (arith, fewer, b)),
+      (let more : suc w.more ≡ suc behind = sym w.visited.count ∙ b in
+          let enough : 7 + search_frames w.more ≤ left + 6 = w.frames in omega (arith, less, more, enough)),
+    )) s c v is v seek count
+
+pub behind_sent : (p : Purpose) (s : Stage) (k : Kept) (x : Ascent) (n : SearchAddress) (gs : List Gear) (numbers : List ℕ) (left l behind : ℕ) (c : Command)
+    (h : Answer) → IsHunt p → left ≡ suc l → HuntAt false p s k x n gs left → Sends p n k s c → Seeks s gs → IsBehind p s behind gs left
+    → IsBehind p (next_stage s c h) behind (row_after Everyone c 0 gs numbers) l
+behind_sent Hunting s k x n gs numbers left l behind c h hunt less at is seek count = count
+behind_sent Visiting s k x n gs numbers left l behind c h hunt less at is seek count =
+    visit_behind s k n gs numbers left l behind c h less at.0 is seek count
+behind_sent _ s k x n gs numbers left l behind c h hunt less at is seek count = absurd hunt
+
+-- and more frames are left than it is behind
+deep : (k : Kept) (n : SearchAddress) (more left behind sent : ℕ) → sent ≤ 4 → suc more ≡ suc behind → VisitFrames k n more (left + sent) → 5 * behind < left
+deep k n more left behind sent few same (inl e) = let enough : 7 + search_frames more ≤ left + sent = e.1 in omega (arith, few, same, enough)
+deep k n more left behind sent few same (inr e) = let enough : 11 + search_frames more ≤ left + sent = e in omega (arith, few, same, enough)
+
+visit_deep : (s : Stage) (k : Kept) (n : SearchAddress) (gs : List Gear) (left behind : ℕ) → VisitsAt s k n gs left → IsBehind Visiting s behind gs left
+    → 5 * behind < left
+visit_deep stage.Free k n gs left behind v count = deep k n v.more left behind 0 (omega arith) (sym v.visited.count ∙ count) v.frames
+visit_deep (stage.HighSent high) k n gs left behind v count = deep k n v.more left behind 1 (omega arith) (sym v.visited.count ∙ count) v.frames
+visit_deep (stage.MiddleSent high middle) k n gs left behind v count = deep k n v.more left behind 2 (omega arith) (sym v.visited.count ∙ count) v.frames
+visit_deep (stage.NumberSent r) k n gs left behind v count = deep k n v.more left behind 3 (omega arith) (sym v.visited.count ∙ count) v.frames
+visit_deep (stage.Unnamed r) k n gs left behind v count = deep k n v.more left behind 4 (omega arith) (sym v.visited.count ∙ count) v.frames
+visit_deep (stage.Programmed r a) k n gs left behind v count =
+    let more : suc v.more ≡ suc behind = sym v.visited.count ∙ count in
+    let enough : 7 + search_frames v.more ≤ left + 5 = v.frames in
+    omega (arith, more, enough)
+visit_deep (stage.Confirmed r a) k n gs left behind v count =
+    let more : suc v.more ≡ suc behind = sym v.visited.count ∙ count in
+    let enough : 7 + search_frames v.more ≤ left + 6 = v.frames in
+    omega (arith, more, enough)
+visit_deep (stage.Withdrawn r a) k n gs left behind v count = let enough : search_frames behind ≤ left = count.1 in omega (arith, enough)
+visit_deep _ k n gs left behind v count = absurd v.stage_is
+
+pub hunt_deep : (p : Purpose) (s : Stage) (k : Kept) (x : Ascent) (n : SearchAddress) (gs : List Gear) (left l behind : ℕ) → IsHunt p → left ≡ suc l
+    → HuntAt false p s k x n gs left → IsBehind p s behind gs left → 5 * behind < left
+hunt_deep Hunting s k x n gs left l behind hunt less at count = omega (arith, less, count)
+hunt_deep Visiting s k x n gs left l behind hunt less at count = visit_deep s k n gs left behind at.0 count
+hunt_deep _ s k x n gs left l behind hunt less at count = absurd hunt
 
 -- A FRAME OF A ROLL CALL IS SENT, or one after which gear draw, and one frame less is left.
 
@@ -217,18 +317,11 @@ visited_below n r number same is small = subst (λ m. m < MASK24) (sym (ap value
 
 visiting_sought : (s : Stage) (k : Kept) (n : SearchAddress) (gs hs : List Gear) (left : ℕ) (c : Command) → VisitsAt s k n hs left
     → Sends Visiting n k s c → Seeks s gs → IsSoughtBy gs c
-visiting_sought stage.Free k n gs hs left c v is seek = subst (IsSoughtBy gs) (sym is) tt
-visiting_sought (stage.HighSent high) k n gs hs left c v is seek = subst (IsSoughtBy gs) (some_is (SearchMiddle n.middle) c is) tt
-visiting_sought (stage.MiddleSent high middle) k n gs hs left c v is seek = subst (IsSoughtBy gs) (some_is (SearchLow n.low) c is) tt
-visiting_sought (stage.NumberSent r) k n gs hs left c v is seek =
-    subst (IsSoughtBy gs) (some_is QueryShort c is) (r, seek r refl, visited_below n r v.visited.number v.searched v.visited.number_is v.visited.drawn)
-visiting_sought (stage.Unnamed r) k n gs hs left c v is seek =
-    subst (IsSoughtBy gs) (sym is.3) (r, seek r refl, visited_below n r v.visited.number v.searched v.visited.number_is v.visited.drawn)
-visiting_sought (stage.Programmed r a) k n gs hs left c v is seek =
-    subst (IsSoughtBy gs) (some_is QueryShort c is) (r, seek r refl, visited_below n r v.visited.number (sym v.searched) v.visited.number_is v.visited.drawn)
-visiting_sought (stage.Confirmed r a) k n gs hs left c v is seek = subst (IsSoughtBy gs) (some_is Withdraw c is) tt
-visiting_sought (stage.Withdrawn r a) k n gs hs left c v is seek = absurd (cc)
-visiting_sought _ k n gs hs left c v is seek = absurd v.stage_is
+visiting_sought s k n gs hs left c v is seek =
+    visit_by (λ t d. VisitsAt t k n hs left → Seeks t gs → IsSoughtBy gs d) n k hs left (λ w by. tt) (λ high w by. tt) (λ high middle w by. tt)
+    (λ r w by. (r, by r refl, visited_below n r w.visited.number w.searched w.visited.number_is w.visited.drawn))
+    (λ r a small has w by. (r, by r refl, visited_below n r w.visited.number w.searched w.visited.number_is w.visited.drawn))
+    (λ r a w by. (r, by r refl, visited_below n r w.visited.number (sym w.searched) w.visited.number_is w.visited.drawn)) (λ r a w by. tt) s c v is v seek
 
 seeks_drawn : (s : Stage) (gs : List Gear) → Seeks s gs → Seeks s (those_drawn gs)
 seeks_drawn s gs seek r at = seek_drawn gs r (seek r at)
@@ -298,19 +391,12 @@ hunt_tabled before _ s k x n gs numbers left rest c h hunt at is seek next table
 -- the low byte that it sends is one
 visiting_low : (s : Stage) (k : Kept) (n : SearchAddress) (gs : List Gear) (left : ℕ) (c : Command) → VisitsAt s k n gs left → Sends Visiting n k s c
     → IsByteLow c
-visiting_low stage.Free k n gs left c v is = subst IsByteLow (sym is) tt
-visiting_low (stage.HighSent high) k n gs left c v is = subst IsByteLow (some_is (SearchMiddle n.middle) c is) tt
-visiting_low (stage.MiddleSent high middle) k n gs left c v is =
-    subst IsByteLow (some_is (SearchLow n.low) c is)
-    (subst (λ (m : SearchAddress). m.low < 256) (sym v.visited.number_is) (low_byte v.visited.number)) where
+visiting_low s k n gs left c v is =
+    visit_by (λ t d. VisitsAt t k n gs left → IsByteLow d) n k gs left (λ w. tt) (λ high w. tt)
+    (λ high middle w. subst (λ (m : SearchAddress). m.low < 256) (sym w.visited.number_is) (low_byte w.visited.number)) (λ r w. tt)
+    (λ r a small has w. tt) (λ r a w. tt) (λ r a w. tt) s c v is v where
       low_byte : (r : ℕ) → r % 256 < 256
       low_byte r = omega arith
-visiting_low (stage.NumberSent r) k n gs left c v is = subst IsByteLow (some_is QueryShort c is) tt
-visiting_low (stage.Unnamed r) k n gs left c v is = subst IsByteLow (sym is.3) tt
-visiting_low (stage.Programmed r a) k n gs left c v is = subst IsByteLow (some_is QueryShort c is) tt
-visiting_low (stage.Confirmed r a) k n gs left c v is = subst IsByteLow (some_is Withdraw c is) tt
-visiting_low (stage.Withdrawn r a) k n gs left c v is = absurd (cc)
-visiting_low _ k n gs left c v is = absurd v.stage_is
 
 hunt_low : (p : Purpose) (s : Stage) (k : Kept) (x : Ascent) (n : SearchAddress) (gs : List Gear) (left : ℕ) (c : Command) → IsHunt p
     → HuntAt false p s k x n gs left → Sends p n k s c → IsByteLow c
@@ -350,11 +436,13 @@ hunts_sent p s k heard c start gs numbers left d h hunt v is t told seek = (
   one.0,
   one.1,
   record {
-    opened_is = v.opened_is;
-    loud = v.loud;
-    first = λ some. v.first (subst (λ m. 0 < m) (lost_same d gs numbers (searching_of gs d by) (still_of gs d by)) some);
+    hunted = record {
+      opened_is = v.hunted.opened_is;
+      loud = v.hunted.loud;
+      first = λ some. v.hunted.first (subst (λ m. 0 < m) (lost_same d gs numbers (searching_of gs d by) (still_of gs d by)) some);
+      low = low_after d gs numbers (hunt_low p s k c.ascent c.number (those_drawn gs) v.rest d hunt v.at is) v.hunted.low;
+    };
     called = hunt_called p s k c.ascent c.number gs numbers v.rest d hunt v.at is v.called;
-    low = low_after d gs numbers (hunt_low p s k c.ascent c.number (those_drawn gs) v.rest d hunt v.at is) v.low;
     clear = v.clear;
     settled = v.settled;
     rest = sent.0;

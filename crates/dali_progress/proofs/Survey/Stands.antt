@@ -1,24 +1,15 @@
-use Rattle.std.proofs.Common.{◌≡◌, ℕ, ◌+◌, ◌-◌, ◌*◌, ◌<◌, ◌≤◌, ◌⊎◌, Bool, true, false, zero, suc, List, Some, None, ◌==◌, if◌then◌else◌}
-use Rattle.std.specs.List.{count_by}
-use Rattle.dali_frame.specs.{Random.value_of, declared.numbers.SearchAddress.SearchAddress}
-use Rattle.dali_gear.specs.Gear.{Gear}
-use Rattle.dali_script.specs.{Records.Assignment, Records.Kept, Records.Has, Records.HasAddress, Records.InBlock, Stages.IsTrace, Stages.stage_of}
-use Rattle.dali_script.specs.declared.orders.End.{End, TheVariants.AllFound, TheVariants.BlockFull, TheVariants.GaveUp}
-use Rattle.dali_script.specs.declared.stage.Stage.{Stage}
+use Rattle.dali_progress.proofs.Below.{◌≡◌, ℕ, ◌+◌, ◌-◌, ◌*◌, ◌<◌, ◌≤◌, ◌⊎◌, Bool, true, false, zero, suc, List, Some, None, ◌==◌, if◌then◌else◌, count_by}
+use Rattle.dali_progress.proofs.Below.{value_of, SearchAddress, Gear, Assignment, Kept, Has, HasAddress, InBlock, IsTrace, stage_of, End, AllFound, BlockFull}
+use Rattle.dali_progress.proofs.Below.{GaveUp, Stage, Ascent, IsAscent, Knows, asked_next, leads_to, Gives, has_room, frames_to_ask, room_left}
+use Rattle.dali_progress.proofs.Below.{thirds_to_somebody, thirds_to_nobody, IsTrueWay, Again, Found as Reached, Course, is_yes, sought, bytes_to_send, Machine}
+use Rattle.dali_progress.proofs.Below.{has_short, none_passed, Purpose, Opening, Probing, Visiting, Resolving, Closing, Hunting, Asking as Counting, Calling}
+use Rattle.dali_progress.proofs.Below.{Drawing, PassingOver, Shorts, Tally, Surveying, Passed, Way, HasShort, is_bare, is_wanted, wants, OfPowered, IsOpened}
+use Rattle.dali_progress.proofs.Below.{NoneNamed, SameCore, AreTabled, IsSettled}
+use Rattle.dali_search.specs.Questions.{Asking}
 use Rattle.dali_script.specs.declared.stage.Stage.TheVariants as stage
-use Rattle.dali_search.specs.{Ascending.Ascent, Ascending.IsAscent, Ascending.Knows, Ascending.asked_next, Ascending.leads_to, Least.Gives}
-use Rattle.dali_search.specs.Questions.{Asking, has_room, frames_to_ask, room_left, thirds_to_somebody, thirds_to_nobody, IsTrueWay}
-use Rattle.dali_search.specs.declared.step.Step.TheVariants.{Again, Found as Reached}
-use Rattle.dali_controller.specs.{Course.Course, Course.is_yes, Course.sought, Course.bytes_to_send, Machine.Machine, Shorts.has_short, Tally.none_passed}
-use Rattle.dali_controller.specs.declared.purpose.Purpose.{Purpose, TheVariants.Opening, TheVariants.Probing}
-use Rattle.dali_controller.specs.declared.purpose.Purpose.TheVariants.{Visiting, Resolving, Closing, Hunting, Asking as Counting, Calling, Drawing, PassingOver}
-use Rattle.dali_controller.specs.declared.{shorts.Shorts.Shorts, tally.Tally.Tally, way.Way.TheVariants.Surveying}
-use Rattle.dali_events.specs.{Searching.HasShort, Wanted.is_bare, Wanted.is_wanted, Wanted.wants, Wanted.OfPowered, Wanted.IsOpened, Wanted.NoneNamed}
-use Rattle.dali_events.proofs.Search.Leaving.{SameCore}
-use Rattle.dali_progress.specs.{Ends.AreTabled, Rounds.IsSettled}
-use Rattle.dali_progress.proofs.Stands.{to_come, search_frames, VisitsAt, CloseStage, sent_at}
-use Rattle.dali_progress.proofs.Survey.{Drawn.those_drawn, Drawn.is_lost, Queried.Nobody, Queried.TabledBelow, Queried.unseen, Woken.AreLow}
-use Rattle.dali_progress.proofs.Surveying.{IsRollCall, IsDraw, call_sent, draw_left, IsAskedOf, IsClear}
+use Rattle.dali_progress.proofs.{Stands.{to_come, search_frames, VisitsAt, CloseStage, sent_at}, Survey.Drawn.{those_drawn, is_lost}, Survey.Queried.Nobody}
+use Rattle.dali_progress.proofs.{Survey.Queried.{TabledBelow, unseen}, Survey.Woken.AreLow, Surveying.{IsRollCall, IsDraw, call_sent, draw_left, IsAskedOf}}
+use Rattle.dali_progress.proofs.{Surveying.IsClear}
 
 -- HOW FAR A SURVEY IS, if nothing is disturbed. `start` are the gear at its start.
 
@@ -206,13 +197,20 @@ IsBehind Visiting (stage.Withdrawn r a) behind gs left = (count_by is_wanted gs 
 IsBehind Visiting s behind gs left = count_by is_wanted gs ≡ suc behind
 IsBehind p s behind gs left = behind ≡ 0
 
+-- what is known while gear are hunted, whichever transaction is to come
+pub record Hunted (opened silent : Bool) (draws : ℕ) (gs : List Gear) : Type 0 where
+  pub opened_is : opened ≡ true
+  pub loud : silent ≡ false
+  pub first : 0 < count_by is_lost gs → draws ≡ 0
+  pub low : AreLow gs
+
+abbrev pub IsHunted : Course → List Gear → Type 0
+IsHunted c gs = Hunted c.opened c.tally.is_silent c.tally.draws gs
+
 pub record Hunts (told : Bool) (p : Purpose) (s : Stage) (k : Kept) (heard : Shorts) (c : Course) (start : Begun) (gs : List Gear)
     (left : ℕ) : Type 0 where
-  pub opened_is : c.opened ≡ true
-  pub loud : c.tally.is_silent ≡ false
-  pub first : IsFirstDraw c.tally gs
+  pub hunted : IsHunted c gs
   pub called : IsCalledFor p c.ascent gs
-  pub low : AreLow gs
   pub clear : IsClear k heard
   pub settled : IsSettled start.kept → IsSettledBut p c.number k
   pub rest : ℕ
@@ -256,14 +254,24 @@ SurveyAt told PassingOver s k heard asked c start gs left = ⊥
 SurveyAt told (Resolving a) s k heard asked c start gs left = ⊥
 
 -- if no visit fails, no gear is passed over, and no short address is asked again
-pub record IsSmooth (c : Course) : Type 0 where
-  pub way : c.way ≡ Surveying
-  pub passed : c.tally.passed ≡ none_passed
-  pub unmissed : c.tally.is_missed ≡ false
+pub record Smooth (y : Way) (p : Passed) (b : Bool) : Type 0 where
+  pub way : y ≡ Surveying
+  pub passed : p ≡ none_passed
+  pub unmissed : b ≡ false
+
+abbrev pub IsSmooth : Course → Type 0
+IsSmooth c = Smooth c.way c.tally.passed c.tally.is_missed
+
+-- what every machine has that is not disturbed
+pub record Undisturbed (tries silent : ℕ) (y : Way) (p : Passed) (b : Bool) : Type 0 where
+  pub untried : tries ≡ 0
+  pub loud : silent ≡ 0
+  pub smooth : Smooth y p b
+
+abbrev pub Calm : Machine → Type 0
+Calm m = Undisturbed m.tries m.silent m.course.way m.course.tally.passed m.course.tally.is_missed
 
 pub record SurveyStands (told : Bool) (start : Begun) (m : Machine) (gs : List Gear) (left : ℕ) : Type 0 where
-  pub tries : m.tries ≡ 0
-  pub silent : m.silent ≡ 0
-  pub smooth : IsSmooth m.course
+  pub calm : Calm m
   pub trace : IsTrace (stage_of m.trace) m.trace
   pub at : SurveyAt told m.course.purpose (stage_of m.trace) m.kept m.heard m.asked m.course start gs left

@@ -1,28 +1,18 @@
-use Rattle.std.proofs.Common.{◌≡◌, ℕ, ◌+◌, ◌-◌, ◌*◌, ◌<◌, ◌≤◌, ◌⊎◌, inl, inr, Bool, true, false, zero, suc, List, [], ◌∷◌, ◌++◌, refl, sym, ap, subst, ◌∙◌}
-use Rattle.std.proofs.Common.{arith, Some, None, ◌==◌, ◌&&◌, not, nat_lt, if◌then◌else◌}
-use Rattle.std.{proofs.lemmas.Bool.Decides.nat_tests, specs.List.count_by}
-use Rattle.dali_frame.specs.{Random.MASK24, declared.frames.Answer.Answer, declared.numbers.SearchAddress.SearchAddress}
-use Rattle.dali_gear.specs.Gear.{Gear}
-use Rattle.dali_script.specs.{Findings.assigned, Findings.finding_of, Records.Has, Stages.stage_of, Stages.finding_at}
-use Rattle.dali_script.specs.declared.{finding.Finding.Finding, finding.Finding.TheVariants.Resolved, orders.End.TheVariants.AllFound, orders.Order.Order}
-use Rattle.dali_script.specs.declared.orders.Order.TheVariants.{Put, Commit, Done, Halt}
-use Rattle.dali_script.{specs.declared.records.Record.TheVariants.Enrol, specs.declared.stage.Stage.Stage, proofs.Lists.has_last, proofs.Lists.has_before}
+use Rattle.dali_progress.proofs.Below.{◌≡◌, ℕ, ◌+◌, ◌-◌, ◌*◌, ◌<◌, ◌≤◌, ◌⊎◌, inl, inr, Bool, true, false, zero, suc, List, [], ◌∷◌, ◌++◌, refl, sym, ap, subst}
+use Rattle.dali_progress.proofs.Below.{◌∙◌, arith, Some, None, ◌==◌, ◌&&◌, not, nat_lt, if◌then◌else◌, nat_tests, count_by, MASK24, Answer, SearchAddress, Gear}
+use Rattle.dali_progress.proofs.Below.{assigned, finding_of, Has, stage_of, finding_at, Finding, Resolved, AllFound, Order, Put, Commit, Done, Halt, Enrol}
+use Rattle.dali_progress.proofs.Below.{Stage, has_last, has_before, Course, call_turn, calling, closing, hunting_first, is_yes, turn_of, Machine, next_course}
+use Rattle.dali_progress.proofs.Below.{begins_at, beginning, asked_once, called_to, compared_in, blocked, is_blocked, machine_ordered, asked_by, Contradicts}
+use Rattle.dali_progress.proofs.Below.{AfterFinding, IsSought, none_passed, is_some_passed, heard_call, silent_call, IsWhole, Asking, Calling, Tally, IsGivenBy}
+use Rattle.dali_progress.proofs.Below.{IsNoEnrolment, gear_of, is_wanted, is_bare, IsOpened, NoneNamed}
 use Rattle.dali_script.specs.declared.stage.Stage.TheVariants as stage
-use Rattle.dali_controller.specs.Course.{Course, call_turn, calling, closing, hunting_first, is_yes, turn_of}
-use Rattle.dali_controller.specs.{Machine.Machine, Next.next_course, Next.begins_at, Next.beginning, Next.asked_once, Next.called_to, Next.compared_in}
-use Rattle.dali_controller.specs.{Next.blocked, Next.is_blocked, Orders.machine_ordered, Orders.asked_by, Orders.Contradicts, Orders.AfterFinding}
-use Rattle.dali_controller.specs.{Orders.IsSought, Tally.none_passed, Tally.is_some_passed, Tally.heard_call, Tally.silent_call, Whole.IsWhole}
-use Rattle.dali_controller.specs.declared.{purpose.Purpose.TheVariants.Asking, purpose.Purpose.TheVariants.Calling, tally.Tally.Tally}
-use Rattle.dali_controller.proofs.Given.{IsGivenBy, IsNoEnrolment}
 use Rattle.dali_controller.proofs.Given as given
-use Rattle.dali_events.specs.Wanted.{gear_of, is_wanted, is_bare, IsOpened, NoneNamed}
 use Rattle.dali_events.proofs.Search.Wanted as wanted
-use Rattle.dali_progress.proofs.Survey.Begins.{IsNext, calm_of, calm_ordered, smooth_as, first_by, begins_whole, asked_none, asks_on, hunts_first, roll_some}
-use Rattle.dali_progress.proofs.Survey.Begins.{roll_none}
+use Rattle.dali_progress.proofs.Survey.Begins.{first_by, begins_whole, asked_none, asks_on, hunts_first, roll_some, roll_none, GoesTo}
 use Rattle.dali_progress.proofs.Survey.Drawn.{those_drawn, is_lost, AreNumbered, bare_split, woken_opened, woken_none_named, tabled_drawn}
-use Rattle.dali_progress.proofs.Survey.Queried.{Holds, OneShort, IsTrue, unseen, below_next, IsAtHand, one_gear}
-use Rattle.dali_progress.proofs.Survey.Stands.{Begun, survey_frames, silent_left, Counts, IsUncalled, Calls, hunted_after, SurveyAt, SurveyStands}
-use Rattle.dali_progress.proofs.{Survey.Woken.all_short, Surveying.IsCalledBy, Surveying.roll_first, Surveying.roll_over}
+use Rattle.dali_progress.proofs.{Survey.Queried.{Holds, OneShort, IsTrue, unseen, below_next, IsAtHand, one_gear}, Survey.Stands.{Begun, survey_frames}}
+use Rattle.dali_progress.proofs.{Survey.Stands.{silent_left, Counts, IsUncalled, Calls, hunted_after, SurveyAt, SurveyStands}, Survey.Woken.all_short}
+use Rattle.dali_progress.proofs.Surveying.{IsCalledBy, roll_first, roll_over}
 
 -- A CONTROLLER THAT SURVEYS ACTS on what it was told, and what it orders goes on with the survey.
 
@@ -44,19 +34,19 @@ again_left (suc k) e = omega arith
 silent_turns : (start : Begun) (t : Machine) (o : Order) (a b : ℕ) (gs : List Gear) (left : ℕ) → IsGivenBy t o → SurveyStands true start t gs left
     → IsNoEnrolment t.last → t.course.purpose ≡ Asking a → stage_of t.trace ≡ stage.HighAsked b None → IsUncalled t.course
     → Counts a (stage.HighAsked b None) t.kept t.heard t.asked t.course.from start gs left → IsWhole (machine_ordered t o)
-    → OneShort gs → IsTrue t.kept.enrolled gs → IsNext start (machine_ordered t o) o gs left
+    → OneShort gs → IsTrue t.kept.enrolled gs → GoesTo start t o gs left
 silent_turns start t o a b gs left g st last purpose is uncalled v whole one holds = go (t.asked == 0) refl where
   begins : o ≡ beginning (next_course t)
   begins =
       begins_whole t o (Asking a) (stage.HighAsked b None) g purpose is (λ r e. cc) (λ e. cc) tt (λ f sends. (let none = sends.0 in cc))
-      (found_at start t gs left (stage.HighAsked b None) st is) last st.tries whole
+      (found_at start t gs left (stage.HighAsked b None) st is) last st.calm.untried whole
 
   next : next_course t ≡ asked_once t (t.asked == 0)
   next = ap (begins_at t) is
 
-  go : (e : Bool) → (t.asked == 0) ≡ e → IsNext start (machine_ordered t o) o gs left
+  go : (e : Bool) → (t.asked == 0) ≡ e → GoesTo start t o gs left
   go true none =
-      asks_on start t o (a + 1) gs left (calm_of start t gs left st) begins (next ∙ ap (asked_once t) none) uncalled
+      asks_on start t o (a + 1) gs left st.calm begins (next ∙ ap (asked_once t) none) uncalled
       (let zero_is : t.asked ≡ 0 = grind (arith, nat_tests, none) in zero_is) v.from_is
       (let small : a < 64 = v.ask.small in omega (arith, small)) v.settled v.ask.clear one holds v.same
       (below_next a start.gear t.kept.enrolled t.kept.enrolled gs v.same v.tabled (λ x h. h) (λ i holds. absurd (v.ask.asked.1 i holds)))
@@ -64,7 +54,7 @@ silent_turns start t o a b gs left g st last purpose is uncalled v whole one hol
         count : (some wake : ℕ) → a < 64 → 3 * (63 - a) + some + wake ≤ left → 3 * (64 - (a + 1)) + wake ≤ left
         count some wake small enough = omega (arith, small, enough)
   go false again =
-      first_by start t o t.course gs left (calm_of start t gs left st) begins (next ∙ ap (asked_once t) again) st.smooth
+      first_by start t o t.course gs left st.calm begins (next ∙ ap (asked_once t) again) st.calm.smooth
       (subst (λ n. SurveyAt false t.course.purpose stage.Free t.kept t.heard n t.course start gs left)
       (sym (ap (λ b. asked_by b t.asked) uncalled.unopened)) (rw purpose (
         record { unopened = uncalled.unopened; undrawn = uncalled.undrawn; loud = uncalled.loud },
@@ -85,7 +75,7 @@ silent_turns start t o a b gs left g st last purpose is uncalled v whole one hol
 told_turns : (start : Begun) (t : Machine) (o : Order) (a b n : ℕ) (gs : List Gear) (left : ℕ) → IsGivenBy t o → SurveyStands true start t gs left
     → t.course.purpose ≡ Asking a → stage_of t.trace ≡ stage.Spelled b (Some n) → IsUncalled t.course
     → Counts a (stage.Spelled b (Some n)) t.kept t.heard t.asked t.course.from start gs left → IsAtHand t.kept gs
-    → IsUncontradicted t → IsNext start (machine_ordered t o) o gs left
+    → IsUncontradicted t → GoesTo start t o gs left
 told_turns start t o a b n gs left g st purpose is uncalled v hand agrees = go (nat_lt n MASK24) refl where
   count : (wake : ℕ) → a < 64 → 3 * (63 - a) + 0 + wake ≤ left → 3 * (64 - (a + 1)) + wake ≤ left
   count wake small enough = omega (arith, small, enough)
@@ -102,9 +92,9 @@ told_turns start t o a b n gs left g st purpose is uncalled v hand agrees = go (
   -- the next short address, if the gear that has this one is in the table, or has no number that gear draw
   goes : (q : Order) → q ≡ beginning (next_course t)
       → ((i : ℕ) → Holds gs i a → ((gear_of gs i).random ≡ MASK24) ⊎ Has t.kept.enrolled (a, (gear_of gs i).random))
-      → IsNext start (machine_ordered t q) q gs left
+      → GoesTo start t q gs left
   goes q begins here =
-      asks_on start t q (a + 1) gs left (calm_of start t gs left st) begins (ap (begins_at t) is) uncalled v.count v.from_is
+      asks_on start t q (a + 1) gs left st.calm begins (ap (begins_at t) is) uncalled v.count v.from_is
       (let small : a < 64 = v.ask.small in omega (arith, small)) v.settled v.ask.clear hand.one hand.holds v.same
       (below_next a start.gear t.kept.enrolled t.kept.enrolled gs v.same v.tabled (λ x h. h) here)
       (count (survey_frames gs) v.ask.small v.frames)
@@ -116,9 +106,9 @@ told_turns start t o a b n gs left g st purpose is uncalled v hand agrees = go (
     by (inl mask) = inl mask
     by (inr small) = absurd (large (subst (λ m. m < MASK24) (sym (told_by i has)) small))
 
-  enrols : IsNext start (machine_ordered t (Commit (Enrol a n))) (Commit (Enrol a n)) gs left
+  enrols : GoesTo start t (Commit (Enrol a n)) gs left
   enrols = (
-    calm_ordered start t (Enrol a n) gs left st,
+    st.calm,
     inl (record {
       uncalled = uncalled;
       asked = asked_none t.course.opened t.asked v.count;
@@ -133,18 +123,18 @@ told_turns start t o a b n gs left g st purpose is uncalled v hand agrees = go (
     }),
   )
 
-  follows : (q : Order) → IsGivenBy t q → n < MASK24 → AfterFinding t b n q → IsNext start (machine_ordered t q) q gs left
+  follows : (q : Order) → IsGivenBy t q → n < MASK24 → AfterFinding t b n q → GoesTo start t q gs left
   follows (Put p f) g small has =
       goes (Put p f) (given.spelled_known t (Put p f) b n g is (sought small) hand.kept.enrolled has)
       (λ i told. inr (subst (λ c. Has t.kept.enrolled (c, (gear_of gs i).random)) v.ask.asked.0
       (subst (λ r. Has t.kept.enrolled (b, r)) (told_by i told) has)))
   follows (Commit x) g small same =
-      subst (λ y. IsNext start (machine_ordered t (Commit y)) (Commit y) gs left) (sym same)
-      (subst (λ c. IsNext start (machine_ordered t (Commit (Enrol c n))) (Commit (Enrol c n)) gs left) (sym v.ask.asked.0) enrols)
+      subst (λ y. GoesTo start t (Commit y) gs left) (sym same)
+      (subst (λ c. GoesTo start t (Commit (Enrol c n)) gs left) (sym v.ask.asked.0) enrols)
   follows (Done e) g small never = absurd never
   follows (Halt why) g small contradicts = absurd (agrees (Resolved b n) (found_at start t gs left (stage.Spelled b (Some n)) st is) contradicts)
 
-  go : (s : Bool) → nat_lt n MASK24 ≡ s → IsNext start (machine_ordered t o) o gs left
+  go : (s : Bool) → nat_lt n MASK24 ≡ s → GoesTo start t o gs left
   go true less =
       let small : n < MASK24 = grind (arith, nat_tests, less) in
       follows o g small (g.followed.told b n is (sought small))
@@ -155,7 +145,7 @@ told_turns start t o a b n gs left g st purpose is uncalled v hand agrees = go (
 pub census_turns : (start : Begun) (t : Machine) (o : Order) (a : ℕ) (s : Stage) (gs : List Gear) (left : ℕ) → IsGivenBy t o → SurveyStands true start t gs left
     → IsNoEnrolment t.last → t.course.purpose ≡ Asking a → stage_of t.trace ≡ s → (s ≡ stage.Free → ⊥) → IsUncalled t.course
     → Counts a s t.kept t.heard t.asked t.course.from start gs left → IsAtHand t.kept gs → IsUncontradicted t → IsWhole (machine_ordered t o)
-    → turn_of (Asking a) t.course.number s ≡ None → IsNext start (machine_ordered t o) o gs left
+    → turn_of (Asking a) t.course.number s ≡ None → GoesTo start t o gs left
 census_turns start t o a stage.Free gs left g st last purpose is running uncalled v hand agrees whole over = absurd (running refl)
 census_turns start t o a (stage.HighAsked b None) gs left g st last purpose is running uncalled v hand agrees whole over =
     silent_turns start t o a b gs left g st last purpose is uncalled v whole hand.one hand.holds
@@ -198,7 +188,7 @@ unblocked y none = ap (λ p. not (nat_lt y.calls 3) && is_some_passed p) none �
 silent_call_turns : (start : Begun) (t : Machine) (o : Order) (r : SearchAddress) (h : Answer) (room : ℕ) (gs : List Gear) (left : ℕ)
     → SurveyStands true start t gs left → t.course.purpose ≡ Calling → stage_of t.trace ≡ stage.Hunted r (Some h) room
     → Calls (stage.Hunted r (Some h) room) t.kept t.heard t.course start gs left → o ≡ beginning (next_course t) → is_yes h ≡ false
-    → count_by is_bare gs ≡ 0 → IsNext start (machine_ordered t o) o gs left
+    → count_by is_bare gs ≡ 0 → GoesTo start t o gs left
 silent_call_turns start t o r h room gs left st purpose is v begins said nobody = go t.course.tally.is_silent refl where
   none : count_by is_bare (those_drawn gs) + count_by is_lost gs ≡ 0
   none = sym (bare_split gs) ∙ nobody
@@ -208,10 +198,10 @@ silent_call_turns start t o r h room gs left st purpose is v begins said nobody 
       subst (λ n. n ≤ left + (8 - room))
       (roll_none t.course.tally.is_silent (count_by is_bare (those_drawn gs)) (count_by is_lost gs) none ∙ ap (λ y. if y then 9 else 17) e) v.frames
 
-  go : (b : Bool) → t.course.tally.is_silent ≡ b → IsNext start (machine_ordered t o) o gs left
+  go : (b : Bool) → t.course.tally.is_silent ≡ b → GoesTo start t o gs left
   go true e =
-      first_by start t o (closing t.course AllFound) gs left (calm_of start t gs left st) begins (silent_next t r h room true is purpose said e)
-      (smooth_as t.course (closing t.course AllFound) refl refl st.smooth)
+      first_by start t o (closing t.course AllFound) gs left st.calm begins (silent_next t r h room true is purpose said e)
+      st.calm.smooth
       (record {
         stage_is = tt;
         well = all_short gs nobody;
@@ -222,9 +212,9 @@ silent_call_turns start t o r h room gs left st purpose is v begins said nobody 
         count : 9 ≤ left + (8 - room) → 1 ≤ left + 0
         count enough = omega (arith, enough)
   go false e =
-      first_by start t o (calling (record t.course { tally = silent_call t.course.tally })) gs left (calm_of start t gs left st) begins
+      first_by start t o (calling (record t.course { tally = silent_call t.course.tally })) gs left st.calm begins
       (silent_next t r h room false is purpose said e)
-      (record { way = st.smooth.way; passed = st.smooth.passed; unmissed = st.smooth.unmissed })
+      st.calm.smooth
       (record {
         opened_is = v.opened_is;
         roll = roll_first gs;
@@ -244,12 +234,12 @@ silent_call_turns start t o r h room gs left st purpose is v begins said nobody 
 heard_call_turns : (start : Begun) (t : Machine) (o : Order) (r : SearchAddress) (h : Answer) (room : ℕ) (gs : List Gear) (left : ℕ)
     → SurveyStands true start t gs left → t.course.purpose ≡ Calling → stage_of t.trace ≡ stage.Hunted r (Some h) room
     → Calls (stage.Hunted r (Some h) room) t.kept t.heard t.course start gs left → AreNumbered gs → o ≡ beginning (next_course t) → is_yes h ≡ true
-    → 0 < count_by is_bare gs → room ≡ 1 → IsNext start (machine_ordered t o) o gs left
+    → 0 < count_by is_bare gs → room ≡ 1 → GoesTo start t o gs left
 heard_call_turns start t o r h room gs left st purpose is v numbered begins said some one =
-    hunts_first start t o heard gs left (calm_of start t gs left st) begins
-    (heard_next t r h room false is purpose said (unblocked t.course.tally st.smooth.passed))
-    (record { way = st.smooth.way; passed = st.smooth.passed; unmissed = st.smooth.unmissed })
-    (record { opened = v.opened_is; loud = refl; first = v.first; low = v.roll.low }) some v.clear v.settled opened unnamed
+    hunts_first start t o heard gs left st.calm begins
+    (heard_next t r h room false is purpose said (unblocked t.course.tally st.calm.smooth.passed))
+    st.calm.smooth
+    (record { opened_is = v.opened_is; loud = refl; first = v.first; low = v.roll.low }) some v.clear v.settled opened unnamed
     (tabled_drawn (unseen start.gear) t.kept.enrolled gs v.tabled)
     (subst (λ n. 106 * n + 10 + hunted_after n (count_by is_lost gs) ≤ left) (sym count)
     (enough (count_by is_bare (those_drawn gs)) (hunted_after (count_by is_bare (those_drawn gs)) (count_by is_lost gs))
@@ -273,18 +263,18 @@ heard_call_turns start t o r h room gs left st purpose is v numbered begins said
 
 pub calling_turns : (start : Begun) (t : Machine) (o : Order) (s : Stage) (gs : List Gear) (left : ℕ) → IsGivenBy t o → SurveyStands true start t gs left
     → t.course.purpose ≡ Calling → stage_of t.trace ≡ s → (s ≡ stage.Free → ⊥)
-    → Calls s t.kept t.heard t.course start gs left → AreNumbered gs → turn_of Calling t.course.number s ≡ None → IsNext start (machine_ordered t o) o gs left
+    → Calls s t.kept t.heard t.course start gs left → AreNumbered gs → turn_of Calling t.course.number s ≡ None → GoesTo start t o gs left
 calling_turns start t o s gs left g st purpose is running v numbered over =
     let at = roll_over s t.course.number gs v.roll over running in
     go at.0 at.1 at.2 (is ∙ at.3) (subst (λ q. Calls q t.kept t.heard t.course start gs left) at.3 v) at.4
   where
     go : (r : SearchAddress) (h : Answer) (room : ℕ) → stage_of t.trace ≡ stage.Hunted r (Some h) room
         → Calls (stage.Hunted r (Some h) room) t.kept t.heard t.course start gs left → call_turn (Some h) room ≡ None
-        → IsNext start (machine_ordered t o) o gs left
+        → GoesTo start t o gs left
     go r h room is v over = by v.roll.stage_is.1 where
       begins : o ≡ beginning (next_course t)
       begins = g.followed.called r h room is purpose over
 
-      by : IsCalledBy h room gs → IsNext start (machine_ordered t o) o gs left
+      by : IsCalledBy h room gs → GoesTo start t o gs left
       by (inl none) = silent_call_turns start t o r h room gs left st purpose is v begins none.0 none.1
       by (inr said) = heard_call_turns start t o r h room gs left st purpose is v numbered begins said.0 said.1 said.2

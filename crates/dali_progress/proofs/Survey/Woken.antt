@@ -1,24 +1,14 @@
-use Rattle.std.proofs.Common.{◌≡◌, ℕ, ◌+◌, ◌<◌, ◌≤◌, ◌⊎◌, inl, inr, Bool, true, false, zero, suc, List, [], ◌∷◌, refl, sym, ap, subst, ◌∙◌, arith, length}
-use Rattle.std.proofs.Common.{Option, Some, None, ◌&&◌, nat_le, if◌then◌else◌}
-use Rattle.std.{proofs.lemmas.Bool.Decides.nat_tests, specs.List.count_by}
-use Rattle.dali_frame.specs.{Random.value_of, Random.MASK24, declared.frames.Answer.Answer, declared.frames.Answer.TheVariants.Silence}
-use Rattle.dali_frame.specs.declared.{frames.Answer.TheVariants.Byte, frames.Answer.TheVariants.Damaged, numbers.SearchAddress.SearchAddress}
-use Rattle.dali_special.specs.declared.command.Command.{Command}
-use Rattle.dali_special.specs.declared.command.Command.TheVariants.{Randomise, Compare, SearchHigh, SearchMiddle, SearchLow, Program}
-use Rattle.dali_gear.specs.Gear.{Gear, is_enabled, is_active, gear_taken, answer, search_after}
-use Rattle.dali_gear.specs.Row.{takes, row_after, option_cons, answers_of, heard_of}
-use Rattle.dali_gear.specs.declared.{row.Reach.TheVariants.Everyone, state.InitialisationState.TheVariants.Enabled}
+use Rattle.dali_progress.proofs.Below.{◌≡◌, ℕ, ◌+◌, ◌<◌, ◌≤◌, ◌⊎◌, inl, inr, Bool, true, false, zero, suc, List, [], ◌∷◌, refl, sym, ap, subst, ◌∙◌, arith}
+use Rattle.dali_progress.proofs.Below.{length, Option, Some, None, ◌&&◌, nat_le, if◌then◌else◌, nat_tests, count_by, value_of, MASK24, Answer, Silence, Byte}
+use Rattle.dali_progress.proofs.Below.{Damaged, SearchAddress, Command, Randomise, Compare, SearchHigh, SearchMiddle, SearchLow, Program, Gear, is_enabled}
+use Rattle.dali_progress.proofs.Below.{is_active, gear_taken, answer, search_after, takes, row_after, option_cons, answers_of, heard_of, Everyone, Enabled}
+use Rattle.dali_progress.proofs.Below.{is_yes, HasShort, is_bare, is_wanted, wants, gear_of, OfPowered, Seek, IsOpened, NoneNamed, row_length, silent_above}
+use Rattle.dali_progress.proofs.Below.{heard_below, LeavesShort, SeekMiddle, AreOpening, IsOpening, both_pass, count_same, after_at}
 use Rattle.dali_script.specs.declared.stage.Stage.TheVariants as stage
-use Rattle.dali_controller.specs.Course.{is_yes}
-use Rattle.dali_events.specs.Searching.{HasShort}
-use Rattle.dali_events.specs.Wanted.{is_bare, is_wanted, wants, gear_of, OfPowered, Seek, IsOpened, NoneNamed}
-use Rattle.dali_events.proofs.{Invariant.Takes.row_length, Search.Heard.silent_above, Search.Heard.heard_below, Search.Leaving.LeavesShort}
-use Rattle.dali_events.proofs.Search.{Leaving.SeekMiddle, Opened.AreOpening, Opened.IsOpening, Wanted.both_pass, Wanted.count_same, Wanted.after_at}
 use Rattle.dali_events.proofs.Search.Leaving as leaving
 use Rattle.dali_events.proofs.Search.Wanted as wanted
-use Rattle.dali_progress.proofs.{Frames.short_left, Survey.Drawn.those_drawn}
-use Rattle.dali_progress.proofs.Survey.Drawn.{is_undrawn, is_lost, bare_split, count_first, count_nothing, of_drawn, undrawn_random, woken_short, AreNumbered}
-use Rattle.dali_progress.proofs.Tables.{LeavesNames}
+use Rattle.dali_progress.proofs.{Frames.short_left, Survey.Drawn.{those_drawn, is_undrawn, is_lost, bare_split, count_first, count_nothing, of_drawn}}
+use Rattle.dali_progress.proofs.{Survey.Drawn.{undrawn_random, woken_short, AreNumbered}, Tables.LeavesNames}
 
 -- GEAR WITHOUT SHORT ADDRESS while the roll is called, and while they draw.
 

@@ -59,7 +59,7 @@ fn tells<R: Abort + AllocGlobal>(rt: &R, words: &str, wanted: Option<Kind>) -> R
 }
 
 /// A finding, a capture that has it alone, and one that has none.
-const ROWS: [(Kind, &str, &str); 17] = [
+const ROWS: [(Kind, &str, &str); 21] = [
     (Kind::DamagedFrame, "A100 --", "A100 A100"),
     (Kind::DamagedAnswer, "BB00 <--", "A900 <--"),
     (Kind::UnaskedAnswer, "A100 <FF", "A900 <FF"),
@@ -77,7 +77,11 @@ const ROWS: [(Kind, &str, &str); 17] = [
         "A5FF A5FF +899986001 A900 A100",
         "A5FF A5FF +899986000 A900 A100",
     ),
-    (Kind::NotQueried, "B701 +1500 A100", "B701 +1501 A100"),
+    (
+        Kind::NotQueried,
+        "B701 B112 +90000 A100",
+        "B701 B112 +90000 BB00 A100",
+    ),
     (
         Kind::NotFound,
         "A5FF A5FF B112 B334 B556 A900 B701 BB00 A100",
@@ -108,6 +112,14 @@ const ROWS: [(Kind, &str, &str); 17] = [
         "03C2 <12 03C3 <34 03C4 <56 05C2 <12 05C3 <34 05C4 <56",
         "03C2 <12 03C3 <34 03C4 <56 05C2 <12 05C3 <34 05C4 <57",
     ),
+    (
+        Kind::Redrawn,
+        "A100 03C2 <12 A500 A500 A700 A700 +76000 A100",
+        "A100 03C2 <12 A5FF A5FF A700 A700 +76000 A100",
+    ),
+    (Kind::NotAnAddress, "B700", "B7FF BB00"),
+    (Kind::ResetOfAll, "FF20", "0320"),
+    (Kind::SetForAll, "A301 FF80", "A3FF FF80"),
     (Kind::NotTerminated, "A5FF A5FF", "A5FF A5FF A100"),
 ];
 

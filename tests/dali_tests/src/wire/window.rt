@@ -87,6 +87,30 @@ fn two_frames_are_damaged(rt: HostRuntime) -> Result<(), Fail> {
     Ok(())
 }
 
+/// What is told if the last edge of the forward frame is told so late, with an answer or without.
+fn told_after_echo(late: u32, is_answered: bool) -> Option<Answer> {
+    let mut window = Window::new();
+    window.edge(false, late);
+    let since = if is_answered {
+        send(&mut window, Sender::backward(0x0B), 7000 - late)
+    } else {
+        7000
+    };
+    window.time(since + 6000)
+}
+
+#[test]
+fn an_echo_of_the_own_last_edge_is_not_heard(rt: HostRuntime) -> Result<(), Fail> {
+    let byte = Some(Answer::Byte(0x0B));
+    for late in [0u32, 1, 20, 400, 2399] {
+        same(&rt, &told_after_echo(late, false), &Some(Answer::Silence));
+        same(&rt, &told_after_echo(late, true), &byte);
+    }
+    same(&rt, &told_after_echo(2400, false), &Some(Answer::Damaged));
+    same(&rt, &told_after_echo(2400, true), &Some(Answer::Damaged));
+    Ok(())
+}
+
 #[test]
 fn a_bus_that_does_not_rest_is_damaged(rt: HostRuntime) -> Result<(), Fail> {
     let mut window = Window::new();

@@ -1,4 +1,4 @@
-use Rattle.dali_progress.proofs.Spared.{Alone.alone_in_peace, Asked.unrefused_later, Calls.unrefused}
+use Rattle.dali_progress.{proofs.Spared.Alone.alone_in_peace, proofs.Spared.Peace.unrefused_later, proofs.Spared.Calls.unrefused}
 use Rattle.dali_progress.proofs.Spared.Peace.{unrefused_in_peace, run_in_peace, run_heard, promise_heard, begins_at_start}
 use Rattle.dali_progress.proofs.laws.used_gear_that_were_heard_are_left_alone.Goals as goal
 

@@ -1,0 +1,444 @@
+"""The command line of the launchers. What is the front's own is taken here and nowhere else; all else is the program's.
+
+COMMAND of --driver is split into words as a shell does it; a relative path in it is looked for in the current folder, and then where the
+launchers are. With --story and --trace FILE is made anew if it is empty, a story or a trace, and none of the files that the call works with.
+
+Exit statuses: those of the program, and of what is done in its place; 2 for a bad word; 5 where a file of the records, or beside them, cannot
+be had; 127 if a driver cannot be started; 126, 127 and 130 if the program is not there; 130 if it is interrupted.
+"""
+
+import argparse
+import contextlib
+import os
+import pathlib
+import re
+import shlex
+import signal
+import sys
+import typing
+
+from yolgibat import ROOT, programs, standard
+
+HELP = ROOT / "yolgibat/help"
+BAD_WORD, NO_RECORDS, NOT_STARTED = 2, 5, 127
+COMMISSION, SIMULATE, VIEW = "dali_commission", "dali_sim", "dali_view"
+# The options of a driver, and of files in which is told what was on the bus; each with a value. Other options that have a value which is no word
+# of the launcher, and those that say that places or serial numbers are meant.
+DRIVER, FILES, VALUES, BESIDE = ("--driver", "--driver-timeout"), ("--story", "--trace"), ("--records",), ("--names", "--all", "--serials")
+# The tasks of `dali_commission` that talk to a driver. The commands of each launcher that have a help, and its own; what `--build` builds.
+OVER_DRIVER = ("run", "check", "identify", "replace", "mend", "clear")
+COMMANDS = {COMMISSION: (*OVER_DRIVER, "table", "page", "building"), SIMULATE: ("replay", "threads", "audit", "view", "trace"), VIEW: ()}
+TEXTS = {COMMISSION: ("dali_commission-launcher",), SIMULATE: ("dali_sim", "dali_sim-launcher"), VIEW: ("dali_view",)}
+BUILDS = {COMMISSION: (COMMISSION,), SIMULATE: ("dali_play", SIMULATE), VIEW: ()}
+# What is done in the program's place: the tasks, each with the option that says so.
+IN_PLACE = (("table", "--names"), ("identify", "--all"), ("check", "--serials"))
+# The commands of `dali_sim` that draw: what, and what it is called in a usage.
+DRAWS = {"view": ("page", "PAGE"), "trace": ("trace", "DUMP")}
+OF_BUILDING = ("run", "check", "mend", "clear", "table", "replace", "page")
+# How many seconds a driver may be given for an answer.
+MOST = 86400
+PORTS, ADDRESSES = range(65536), range(64)
+WITHOUT_DRIVER = "note: there is no --driver: the answers of the bus are read from this terminal (docs/ADAPTERS.md)"
+CLEARS = "All gear on the bus lose their short addresses. Type clear to go on: "
+
+
+class BadWord(Exception):
+    """What is wrong with the command line."""
+
+
+class Options(argparse.ArgumentParser):
+    """The words of a task of the front, of which what is wrong is told as of all other words."""
+
+    def __init__(self, prog: str) -> None:
+        super().__init__(prog=prog, add_help=False, allow_abbrev=False)
+
+    def error(self, message: str) -> typing.NoReturn:
+        lacks = re.fullmatch(r"the following arguments are required: (.*)", message)
+        raise BadWord(f"{lacks[1]} must be given" if lacks else message.removeprefix("argument "))
+
+
+# What values are.
+
+
+def command_of(given: list[str]) -> list[str]:
+    """The words of a driver's command, the first of them as it can be started from here."""
+    if len(given) != 1:
+        raise BadWord(f"one --driver COMMAND is wanted, and not {len(given)}")
+    try:
+        words = shlex.split(given[0])
+    except ValueError as why:
+        raise BadWord(f"--driver {given[0]}: {why}") from why
+    if not words or not words[0]:
+        raise BadWord("--driver has no COMMAND")
+    if "/" in words[0] and not programs.is_found(words[0]):
+        words[0] = str(ROOT / words[0])
+    return words
+
+
+def seconds_of(given: list[str]) -> float:
+    """How many seconds a driver has for an answer."""
+    if not given:
+        from yolgibat import joining
+
+        return joining.ANSWERS
+    if len(given) != 1:
+        raise BadWord(f"one --driver-timeout SECONDS is wanted, and not {len(given)}")
+    if not re.fullmatch(r"[0-9]{1,9}(\.[0-9]{1,9})?", given[0]) or not 0 < float(given[0]) <= MOST:
+        raise BadWord(f"--driver-timeout {given[0]}: this is no number of seconds above 0, and at most {MOST}")
+    return float(given[0])
+
+
+def block_of(word: str) -> str:
+    """A block of short addresses, as the program takes it."""
+    found = re.fullmatch(r"([0-9]{1,2})-([0-9]{1,2})", word)
+    if not found or not int(found[1]) <= int(found[2]) <= 63:
+        raise argparse.ArgumentTypeError(f"'{word}' is not a block such as 0-63")
+    return word
+
+
+def port_of(word: str) -> int:
+    if not re.fullmatch(r"[0-9]{1,5}", word) or int(word) not in PORTS:
+        raise argparse.ArgumentTypeError(f"'{word}' is no port")
+    return int(word)
+
+
+def count_of(word: str) -> int:
+    """How many buses at once."""
+    if not re.fullmatch(r"[1-9][0-9]{0,3}", word):
+        raise argparse.ArgumentTypeError(f"'{word}' is no number from 1 to 9999")
+    return int(word)
+
+
+def address_of(word: str) -> int:
+    if not re.fullmatch(r"[0-9]{1,2}", word) or int(word) not in ADDRESSES:
+        raise BadWord(f"'{word}' is no short address, 0 to 63")
+    return int(word)
+
+
+def path_of(name: str, given: list[str]) -> str | None:
+    """The path that is given to an option, or None if none is."""
+    if given and (len(given) != 1 or not given[0]):
+        raise BadWord(f"one {name} FILE is wanted, and not {len(given)}" if given[0] else f"{name} has no FILE")
+    return given[0] if given else None
+
+
+# The words of each task.
+
+
+def parted(words: list[str], *names: str) -> tuple[list[str], dict[str, list[str]]]:
+    """The words that are none of these options, and for each of these what was given to it."""
+    rest, given, left = [], {it: [] for it in names}, iter(words)
+    for word in left:
+        name, sign, value = word.partition("=")
+        if name in given:
+            given[name].append(value if sign else next(left, ""))
+        else:
+            rest.append(word)
+    return rest, given
+
+
+def over_driver(options: Options, words: list[str]) -> argparse.Namespace:
+    """What is chosen of these options, and the driver, as words and as it is written."""
+    rest, given = parted(words, *DRIVER)
+    chosen = options.parse_args(rest)
+    chosen.driver, chosen.seconds = command_of(given["--driver"]), seconds_of(given["--driver-timeout"])
+    chosen.title = given["--driver"][0]
+    return chosen
+
+
+def of_page(words: list[str]) -> argparse.Namespace:
+    """What a page is to be of."""
+    options = Options("dali_commission page")
+    options.add_argument("--records", action="append", required=True)
+    options.add_argument("--others", action="append", type=block_of, default=[])
+    options.add_argument("--port", type=port_of, default=0)
+    options.add_argument("--open", action="store_true")
+    options.add_argument("--program")
+    options.add_argument("block", nargs="?", type=block_of, default="0-63")
+    return over_driver(options, words)
+
+
+def of_asking(words: list[str]) -> argparse.Namespace:
+    """The port, and whether a browser is started, if the page is to ask for all else."""
+    options = Options("dali_commission page")
+    options.add_argument("--ask", action="store_true", required=True)
+    options.add_argument("--port", type=port_of, default=0)
+    options.add_argument("--open", action="store_true")
+    return options.parse_args(words)
+
+
+def of_places(words: list[str]) -> argparse.Namespace:
+    """What is to be done with places: `table --names`, or `identify --all`."""
+    options = Options("dali_commission")
+    options.add_argument("task", choices=["table", "identify"])
+    options.add_argument("--records", required=True)
+    options.add_argument("--program")
+    form = options.add_mutually_exclusive_group()
+    for name in ("csv", "json", "names", "all"):
+        (form if name in ("csv", "json") else options).add_argument(f"--{name}", action="store_true")
+    rest, given = parted(words, *DRIVER)
+    chosen = options.parse_args(rest)
+    if not (chosen.names if chosen.task == "table" else chosen.all) or chosen.names and chosen.all:
+        raise BadWord("it is either table --names or identify --all")
+    if chosen.task == "identify":
+        chosen.driver, chosen.seconds = command_of(given["--driver"]), seconds_of(given["--driver-timeout"])
+    elif any(given.values()):
+        raise BadWord("a table is read without a driver")
+    return chosen
+
+
+def of_serials(words: list[str]) -> argparse.Namespace:
+    """What `check --serials` is to read."""
+    options = Options("dali_commission check")
+    options.add_argument("task", choices=["check"])
+    options.add_argument("--serials", action="store_true", required=True)
+    options.add_argument("--records", required=True)
+    options.add_argument("--others", action="append", type=block_of, default=[])
+    options.add_argument("--json", action="store_true")
+    options.add_argument("--program")
+    return over_driver(options, words)
+
+
+def of_building(words: list[str]) -> argparse.Namespace:
+    """What is to be done in a building."""
+    options = Options("dali_commission building")
+    options.add_argument("task", choices=OF_BUILDING)
+    options.add_argument("--building", required=True, type=pathlib.Path)
+    options.add_argument("--at-once", type=count_of)
+    options.add_argument("--since", type=os.path.abspath)
+    options.add_argument("--port", type=port_of, default=0)
+    options.add_argument("--program", type=os.path.abspath)
+    options.add_argument("--missing", action="append", default=[])
+    for name in ("json", "csv", "open", "yes"):
+        options.add_argument(f"--{name}", action="store_true")
+    options.add_argument("bus", nargs="*")
+    chosen = options.parse_intermixed_args(words)
+    for wrong, text in (
+        (chosen.csv and (chosen.json or chosen.task != "table"), "--csv is a form of `table`, beside no other"),
+        (chosen.since and chosen.task != "check", "--since is of `check`"),
+        (chosen.missing and chosen.task not in ("mend", "replace"), "--missing is of `mend` and `replace`"),
+        (chosen.yes and chosen.task != "clear", "--yes is of `clear`"),
+        ((chosen.port or chosen.open) and chosen.task != "page", "--port and --open are of `page`"),
+        (chosen.task == "page" and (chosen.bus or chosen.json or chosen.at_once), "`page` is of the whole building"),
+        (chosen.task == "replace" and len(chosen.bus) != 2, "`replace` wants a bus and a short address"),
+    ):
+        if wrong:
+            raise BadWord(text)
+    chosen.address = address_of(chosen.bus.pop()) if chosen.task == "replace" else None
+    return chosen
+
+
+# What the launchers do.
+
+
+def become(*words: str | os.PathLike[str]) -> typing.NoReturn:
+    """Another program takes the place of this process. Signals are as they were before Python changed them."""
+    for number in (signal.SIGPIPE, signal.SIGXFSZ):
+        signal.signal(number, signal.SIG_DFL)
+    os.execvp(words[0], list(map(str, words)))
+
+
+def show(*names: str) -> typing.NoReturn:
+    """Writes texts of the help."""
+    become("cat", *(HELP / f"{it}.txt" for it in names))
+
+
+def answer(launcher: str, words: list[str]) -> None:
+    """Answers what needs no program: what a launcher takes, or one of its commands, and its version."""
+    texts, commands, built = TEXTS[launcher], COMMANDS[launcher], BUILDS[launcher]
+    if words == ["--build"] and built and programs.BUILD.exists():
+        become(programs.BUILD, *built)
+    if words in (["-h"], ["--help"]) or words == ["help"] and commands:
+        show(*texts)
+    if words in (["-V"], ["--version"]):
+        become("sed", "s/sim/view/" if launcher == VIEW else "", HELP / f"{SIMULATE if launcher == VIEW else launcher}-version.txt")
+    # Behind a command of `dali_commission` the help may be asked for at any place.
+    is_asked = not {"-h", "--help"}.isdisjoint(words[1:] if launcher == COMMISSION or len(words) == 2 else ())
+    asked = words[0] if is_asked else words[1] if words[:1] == ["help"] and len(words) == 2 else ""
+    if asked in commands:
+        show("dali_view" if asked == "view" else f"{launcher}-{asked}")
+
+
+def refuse(launcher: str) -> int:
+    """Says what a launcher takes."""
+    standard.say("".join((HELP / f"{it}.txt").read_text() for it in TEXTS[launcher]), "")
+    return BAD_WORD
+
+
+class Call(typing.NamedTuple):
+    """What a call of `dali_commission` asks for: its first word that is none of the front's, and the words without it; whether an option of a
+    driver or of a file is there; and the last option that speaks of places or serial numbers."""
+
+    task: str
+    rest: list[str]
+    is_driven: bool
+    beside: str
+
+
+def call_of(words: list[str]) -> Call:
+    """What these words ask for. A value is none of them, also of an option of the program that is a file of records."""
+    task, at, is_driven, beside, left = "", None, False, "", iter(enumerate(words))
+    for number, word in left:
+        is_own = word.partition("=")[0] in (*DRIVER, *FILES)
+        if not is_own and word not in BESIDE and at is None:
+            task, at = word, number
+        is_driven, beside = is_driven or is_own, word if word in BESIDE else beside
+        if word in (*DRIVER, *FILES, *VALUES):
+            next(left, None)
+    return Call(task, [it for number, it in enumerate(words) if number != at], is_driven, beside)
+
+
+def commission(words: list[str]) -> int:
+    """Gives the gear of a bus their short addresses, over a driver."""
+    call = call_of(words)
+    if call.task in ("page", "building"):
+        return serve(call)
+    if (call.task, call.beside) in IN_PLACE:
+        return in_place(call.task, words)
+    if call.task in OVER_DRIVER and not call.is_driven and os.isatty(0):
+        standard.say(WITHOUT_DRIVER)
+    if call.task == "clear" and "--yes" not in words and os.isatty(0):
+        # On a terminal all gear lose their short addresses only if this word is typed in full.
+        standard.say(CLEARS, "")
+        if sys.stdin.readline().removesuffix("\n") != "clear":
+            standard.say("nothing was changed")
+            return BAD_WORD
+        words = [*words, "--yes"]
+    if call.is_driven:
+        return drive(words, call.task == "identify")
+    become(programs.LAUNCH, COMMISSION, *words)
+
+
+def serve(call: Call) -> int:
+    """A page, or what is done in a building."""
+    if call.task == "building":
+        from yolgibat import building
+
+        standard.fill()
+        return building.main(of_building(call.rest))
+    from yolgibat import page
+
+    return page.ask(of_asking(call.rest)) if "--ask" in call.rest else page.main(of_page(call.rest))
+
+
+def in_place(task: str, words: list[str]) -> int:
+    """What is done with places, or with serial numbers."""
+    standard.fill()
+    if task == "check":
+        from yolgibat import serials
+
+        return serials.main(of_serials(words))
+    from yolgibat import terminal
+
+    return terminal.main(of_places(words))
+
+
+def drive(words: list[str], is_gentle: bool) -> int:
+    """Runs the program joined to its driver. Whoever shows a luminaire is to leave it bright, so that is ended gently."""
+    standard.fill()
+    from yolgibat import joining
+
+    rest, given = parted(words, *DRIVER, *FILES)
+    if wrong := programs.fault(COMMISSION, rest):
+        standard.say(wrong[0])
+        return wrong[1]
+    driver, seconds = command_of(given["--driver"]), seconds_of(given["--driver-timeout"])
+    with files_of(given, rest, driver) as files:
+        if not programs.can_start(COMMISSION, driver):
+            return NOT_STARTED
+        program, status = programs.ready(COMMISSION)
+        if status:
+            return status
+        status = joining.join([str(program), *rest], driver, seconds, is_gentle, files)
+    if status - 128 in joining.PASSED:
+        standard.say(f"{COMMISSION}: interrupted")
+    return status
+
+
+@contextlib.contextmanager
+def files_of(given: dict[str, list[str]], words: list[str], driver: list[str]) -> typing.Iterator[dict[str, typing.BinaryIO]]:
+    """The files that are wanted of a run with these words over this driver, made anew, by the names of their options without dashes."""
+    paths = {name: path for name in FILES if (path := path_of(name, given[name]))}
+    if not paths:
+        yield {}
+        return
+    # No run that wants none waits until what judges them is loaded.
+    from yolgibat import anew
+
+    with anew.files(paths, parted(words, "--records")[1]["--records"], driver) as files:
+        yield {name[2:]: it for name, it in files.items()}
+
+
+def simulate(words: list[str]) -> int:
+    """Plays scripts of benches and sites, draws them as pages and traces, and runs sites in threads."""
+    task, *rest = words
+    if task == "replay":
+        raise BadWord("`replay` takes no further word but --json or --story: ./dali_sim replay [--json|--story] < SCRIPT")
+    if task in DRAWS:
+        if rest and not is_story(rest):
+            raise BadWord(f"`{task}` takes no further word but --story FILE: ./dali_sim {task} < SCRIPT > {DRAWS[task][1]}")
+        return draw(DRAWS[task][0], rest)
+    if task == "audit":
+        from yolgibat import auditing
+
+        return auditing.main(*of_audit(rest))
+    become(programs.LAUNCH, SIMULATE, *words)
+
+
+def view(words: list[str]) -> int:
+    """Draws the run of a script as a page, or a story."""
+    return draw("page", words) if not words or is_story(words) else refuse(VIEW)
+
+
+def is_story(words: list[str]) -> bool:
+    return words[0].startswith("--story=") or words[0] == "--story" and len(words) > 1
+
+
+def draw(kind: str, words: list[str]) -> int:
+    """Draws the story in a file, or that of a script."""
+    from yolgibat import drawn
+
+    rest, given = parted(words, "--story")
+    if words and (rest or len(given["--story"]) != 1 or not given["--story"][0]):
+        raise BadWord("one word is taken, --story FILE, or - in place of FILE for standard input")
+    return drawn.draw_story(kind, given["--story"][0]) if words else drawn.draw_script(kind)
+
+
+def of_audit(words: list[str]) -> tuple[str, dict[str, str], list[str]]:
+    """The capture of an audit, the files of `--bench` and `--story`, and the words of the program."""
+    found, files, rest, left = None, {}, [], list(words)
+    while left:
+        word = left.pop(0)
+        if word in ("--bench", "--story", "--wire"):
+            if not left or not left[0]:
+                raise BadWord(f"`{word}` takes a {'name' if word == '--wire' else 'file'}")
+            value = left.pop(0)
+            files, rest = (files, [*rest, word, value]) if word == "--wire" else ({**files, word: value}, rest)
+        elif word.startswith("--"):
+            rest.append(word)
+        elif found is not None:
+            raise BadWord(f"`audit` takes one capture, and not '{word}' too")
+        else:
+            found = word
+    if not found:
+        raise BadWord("`audit` takes a capture: ./dali_sim audit CAPTURE")
+    if found == "-" and files:
+        raise BadWord(f"with `{next(iter(files))}` the capture is a file")
+    return found, files, rest
+
+
+LAUNCHERS = {COMMISSION: commission, SIMULATE: simulate, VIEW: view}
+
+
+def main(launcher: str, *words: str) -> int:
+    try:
+        answer(launcher, list(words))
+        return LAUNCHERS[launcher](list(words)) if words or launcher == VIEW else refuse(launcher)
+    except BadWord as wrong:
+        standard.say(f"error: {wrong}")
+        return BAD_WORD
+    except OSError as why:
+        standard.say(f"error: {why}")
+        return NO_RECORDS
+    except KeyboardInterrupt:
+        return programs.INTERRUPTED

@@ -1,0 +1,61 @@
+"""Draws a run as a page for a browser, or as a value change dump of its bus: what `./dali_view`, `./dali_sim view` and `trace` do.
+
+A script is read from standard input; the program dali_view plays it, and tells its story, which is drawn. A story in a file needs no program.
+What is drawn is written to standard output, whole or not at all.
+Exit statuses: those of the program (0, 1 and 3); 1 also for a story that is none, 3 also if a story cannot be read or the output cannot be
+written; 126, 127 and 130 if the program is not there.
+"""
+
+import os
+import subprocess
+
+from yolgibat import dump, programs, standard, story, viewer
+
+BAD_STORY, FAILED = 1, 3
+
+
+def trace(raw: bytes) -> bytes:
+    """The dump of a story."""
+    return dump.of(story.read(raw)).encode("ascii")
+
+
+# What can be drawn of a story, by name: each takes the bytes of a story, and gives those of what it draws; `story.Bad` if it is none.
+KINDS = {"page": viewer.fill, "trace": trace}
+
+
+def write(text: bytes) -> int:
+    """Writes to standard output."""
+    try:
+        while text:
+            text = text[os.write(1, text) :]
+    except OSError as why:
+        standard.say(f"view: the output cannot be written: {why.strerror}")
+        return FAILED
+    return 0
+
+
+def draw_story(kind: str, name: str) -> int:
+    """Draws the story in a file."""
+    try:
+        with open(0 if name == "-" else name, "rb") as file:
+            raw = file.read(story.LONGEST + 1)
+        page = KINDS[kind](raw)
+    except OSError as why:
+        standard.say(f"view: the story '{name}' cannot be read: {why.strerror}")
+        return FAILED
+    except story.Bad as wrong:
+        standard.say(f"view: the story is bad: {wrong}")
+        return BAD_STORY
+    return write(page)
+
+
+def draw_script(kind: str) -> int:
+    """Draws the story that the program tells of the script in standard input."""
+    ran = subprocess.run([programs.drawing("dali_view", kind)], stdout=subprocess.PIPE)
+    if ran.returncode:
+        return ran.returncode if ran.returncode > 0 else 128 - ran.returncode
+    try:
+        return write(KINDS[kind](ran.stdout))
+    except story.Bad as wrong:
+        standard.say(f"view: the program wrote no story: {wrong}")
+        return programs.REFUSED
