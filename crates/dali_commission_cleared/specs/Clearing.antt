@@ -38,9 +38,9 @@ asides (name ∷ more) number =
     Renamed (string_bytes name) (kept_at (string_bytes name) number) ∷ asides more number
 
 abbrev pub AreRenamed : {F : Type 0} → (F → F → Call → Type 0) → (F → Look → Type 0)
-    → List (String Global) → ℕ → F → F → Type 0
-AreRenamed made saw names number x y =
-    AreFree saw x number names × AreMade made (asides names number) x y
+    → List (String Global) → List (String Global) → ℕ → F → F → Type 0
+AreRenamed made saw records names number x y =
+    AreFree saw x records number names × AreMade made (asides names number) x y
 
 -- those that are there and not empty, where they lie
 abbrev pub AddsFilled : {F : Type 0} → (F → Look → Type 0) → F → List ℕ → List (String Global)
@@ -70,7 +70,7 @@ ArePutAside made saw told records x y =
     (names : List (String Global))
     × (number : ℕ)
     × AreFilled saw x [] records names
-    × AreRenamed made saw names number x y
+    × AreRenamed made saw records names number x y
     × AreKeptTold told number names
 
 -- and so are the new files that a stopped replacement has left beside any of them

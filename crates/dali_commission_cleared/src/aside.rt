@@ -40,19 +40,22 @@ struct Setting<'a, S> {
     system: &'a S,
     /// Where they lie.
     names: &'a [String],
+    /// All that are named.
+    records: &'a [String],
 }
 
 impl<'a, S: Voice + AllocGlobal, F: Stores, D> Holder<F, D> for Setting<'a, S> {
-    type Due = &'a [String];
+    type Due = (&'a [String], &'a [String]);
 
     type Out = u32;
 
     ghost use Rattle.std.specs.Prelude.{◌≡◌, IfOk};
     ghost use Rattle.dali_commission_cleared.specs.Clearing.{AreRenamed};
 
-    ghost dues = { λ setting _ from to _ _ result. (to ≡ from) × IfOk result (λ due. due.now ≡ setting.names.now) };
+    ghost dues = { λ setting _ from to _ _ result. (to ≡ from) × IfOk result (λ due.
+        (due.0.now ≡ setting.names.now) × (due.1.now ≡ setting.records.now)) };
 
-    ghost ends = { λ _ from to due number. AreRenamed F.made F.saw due.now number from to };
+    ghost ends = { λ _ from to due number. AreRenamed F.made F.saw due.1.now due.0.now number from to };
 
     fn refused(&self, name: &str, failure: Failure) -> Failure {
         say_refused(self.system, name, failure)
@@ -63,12 +66,16 @@ impl<'a, S: Voice + AllocGlobal, F: Stores, D> Holder<F, D> for Setting<'a, S> {
         _stores: &mut F,
         _all: &[Kept],
         _beside: &mut D,
-    ) -> Result<&'a [String], Failure> {
-        Ok(self.names)
+    ) -> Result<(&'a [String], &'a [String]), Failure> {
+        Ok((self.names, self.records))
     }
 
-    fn then(self, stores: &mut F, names: &'a [String]) -> Result<u32, Failure> {
-        let number = free_number(self.system.alloc(), stores, names)?;
+    fn then(
+        self,
+        stores: &mut F,
+        (names, records): (&'a [String], &'a [String]),
+    ) -> Result<u32, Failure> {
+        let number = free_number(self.system.alloc(), stores, names, records)?;
         rename_all(self.system, stores, names, number)?;
         Ok(number)
     }
@@ -133,6 +140,7 @@ pub(crate) fn put_aside<S: Voice + AllocGlobal, F: Stores>(
     let setting = Setting {
         system,
         names: &names,
+        records,
     };
     let number = stores.hold(system.alloc(), &names, setting, &mut ())?;
     say_kept(system, &names, number)?;

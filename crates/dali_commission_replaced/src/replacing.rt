@@ -376,7 +376,7 @@ impl<S: Voice + AllocGlobal> Replacing<'_, S> {
         let asking = self.asking;
         let news = self.news(stores, all, first)?;
         let confirmed = asking.confirm(driver, others, &news)?;
-        let number = free_number(asking.system.alloc(), stores, self.names)?;
+        let number = free_number(asking.system.alloc(), stores, self.names, &[])?;
         match Swap::of(&confirmed, all, &news, number, self.copied_names()?) {
             Ok(swap) => Ok(DueSwap {
                 swap,

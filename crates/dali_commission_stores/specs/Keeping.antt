@@ -1,4 +1,5 @@
-use Rattle.std.specs.Prelude.{◌≡◌, ◌⊎◌, ℕ, false, List, [], ◌∷◌, ◌++◌, codes, decimal, string_bytes}
+use Rattle.std.specs.Prelude.{◌≡◌, ◌≢◌, ◌⊎◌, ℕ, false, List, [], ◌∷◌, ◌++◌}
+use Rattle.std.specs.Prelude.{codes, decimal, string_bytes}
 use Rattle.std.specs.declared.alloc.Global.{Global}
 use Rattle.std.specs.declared.string.String.{String}
 use Rattle.dali_commission_stores.specs.Calls.{Look, Call, Renamed, AreMade}
@@ -12,11 +13,24 @@ use Rattle.dali_commission_said.specs.declared.said.Said.TheVariants as said
 abbrev pub aside_at : List ℕ → ℕ → List ℕ
 aside_at name number = name ++ (codes ".aside-" ++ decimal number)
 
--- a number under which no old file of some names is kept
-abbrev pub AreFree : {F : Type 0} → (F → Look → Type 0) → F → ℕ → List (String Global) → Type 0
-AreFree saw x number [] = Unit {0}
-AreFree saw x number (name ∷ more) =
-    saw x (look.Has (kept_at (string_bytes name) number) false) × AreFree saw x number more
+-- a name does not lie at a place; and none of some names does
+abbrev pub LiesElsewhere : {F : Type 0} → (F → Look → Type 0) → F → List ℕ → List ℕ → Type 0
+LiesElsewhere saw x place name = (at : List ℕ) × saw x (look.Lies name at) × (at ≢ place)
+
+abbrev pub LieElsewhere : {F : Type 0} → (F → Look → Type 0) → F → List ℕ → List (String Global)
+    → Type 0
+LieElsewhere saw x place [] = Unit {0}
+LieElsewhere saw x place (name ∷ more) =
+    LiesElsewhere saw x place (string_bytes name) × LieElsewhere saw x place more
+
+-- a number under which no old file of some names is kept, and none of some others lies
+abbrev pub AreFree : {F : Type 0} → (F → Look → Type 0) → F → List (String Global) → ℕ
+    → List (String Global) → Type 0
+AreFree saw x others number [] = Unit {0}
+AreFree saw x others number (name ∷ more) =
+    saw x (look.Has (kept_at (string_bytes name) number) false)
+    × LieElsewhere saw x (kept_at (string_bytes name) number) others
+    × AreFree saw x others number more
 
 -- WHERE OLD FILES ARE KEPT is said of each; what is said is borrowed from what has these bytes
 abbrev pub KeptTold : (Said → Type 0) → List ℕ → List ℕ → Type 0

@@ -3,6 +3,7 @@
 ghost use Rattle.std.specs.Prelude.{◌≡◌, true, IfOk, OnOk, ℕ, IsTrue, string_bytes, false};
 ghost use Rattle.dali_commission_stores.specs.Calls.{Has};
 ghost use Rattle.dali_commission_stores.specs.Keeping.{AreKeptTold, IsAside, AreFree, aside_at};
+ghost use Rattle.dali_commission_stores.specs.Keeping.{LiesElsewhere, LieElsewhere};
 
 use crate::records::{Reading, lend};
 use crate::stores::Stores;
@@ -55,30 +56,69 @@ pub fn put_one_aside<S: Voice + AllocGlobal, F: Stores>(
 /// How many numbers are tried for a name.
 const MOST: u32 = 10_000;
 
-fn is_free<F: Stores>(
+/// Whether a name does not lie at a place.
+fn lies_elsewhere<F: Stores>(
+    alloc: Global,
+    stores: &F,
+    name: &str,
+    place: &str,
+) -> Result<bool, Failure>
+    ensures { IfOk result (λ so. IsTrue so → LiesElsewhere F.saw stores.now place.now name.now) }
+{
+    let at = stores.place_of(alloc, name)?;
+    Ok(at.as_str() != place)
+}
+
+/// Whether none of these names lies there.
+fn lie_elsewhere<F: Stores>(
     alloc: Global,
     stores: &F,
     names: &[String],
-    number: u32,
+    place: &str,
 ) -> Result<bool, Failure>
-    ensures { IfOk result (λ is_free. IsTrue is_free → AreFree F.saw stores.now number names.now) }
+    ensures { IfOk result (λ so. IsTrue so → LieElsewhere F.saw stores.now place.now names.now) }
 {
     let [name, more @ ..] = names else {
         return Ok(true);
     };
-    if stores.has(&kept_of(alloc, name, number)?) {
-        Ok(false)
+    if lies_elsewhere(alloc, stores, name, place)? {
+        lie_elsewhere(alloc, stores, more, place)
     } else {
-        is_free(alloc, stores, more, number)
+        Ok(false)
     }
 }
 
-/// The least number under which no old file of these names is kept.
-pub fn free_number<F: Stores>(alloc: Global, stores: &F, names: &[String]) -> Result<u32, Failure>
-    ensures { IfOk result (λ number. AreFree F.saw stores.now number names.now) }
+fn is_free<F: Stores>(
+    alloc: Global,
+    stores: &F,
+    names: &[String],
+    others: &[String],
+    number: u32,
+) -> Result<bool, Failure>
+    ensures { IfOk result (λ is_free. IsTrue is_free → AreFree F.saw stores.now others.now number names.now) }
+{
+    let [name, more @ ..] = names else {
+        return Ok(true);
+    };
+    let kept = kept_of(alloc, name, number)?;
+    if !stores.has(&kept) && lie_elsewhere(alloc, stores, others, &kept)? {
+        is_free(alloc, stores, more, others, number)
+    } else {
+        Ok(false)
+    }
+}
+
+/// The least number under which no old file of these names is kept, and none of some others lies or is to lie.
+pub fn free_number<F: Stores>(
+    alloc: Global,
+    stores: &F,
+    names: &[String],
+    others: &[String],
+) -> Result<u32, Failure>
+    ensures { IfOk result (λ number. AreFree F.saw stores.now others.now number names.now) }
 {
     for number in 1..MOST {
-        if is_free(alloc, stores, names, number)? {
+        if is_free(alloc, stores, names, others, number)? {
             return Ok(number);
         }
     }

@@ -33,9 +33,9 @@ pub not_there : (o : Option (List ℕ)) → false ≡ is_some o → o ≡ None
 not_there None is = refl
 not_there (Some it) is = absurd (cc)
 
-vacant : (number : ℕ) (names : List (String Global)) (x : Folder) → AreFree Sees (starting x) number names → AreVacant number names x
-vacant number [] x free = tt
-vacant number (name ∷ more) x (one, rest) = (not_there _ (one refl), vacant number more x rest)
+vacant : (number : ℕ) (records names : List (String Global)) (x : Folder) → AreFree Sees (starting x) records number names → AreVacant number names x
+vacant number records [] x free = tt
+vacant number records (name ∷ more) x (one, elsewhere, rest) = (not_there _ (one refl), vacant number records more x rest)
 
 some_none : (o : Option (List ℕ)) → IsSome o → o ≡ None → ⊥
 some_none None some none = absurd (cc)
@@ -153,12 +153,12 @@ filled x (name ∷ more) before after there (mid, one, rest) =
 pub kept : (records names : List (String Global)) (number : ℕ) (x : Folder) (y : Program) (at had : List ℕ) → PutsAside records names number x y
     → x at ≡ Some had → HasStill number x y.folder at had
 kept records names number x y at had (seen, (free, made)) =
-    put number names x (starting x) y (filled x records [] names tt seen) (vacant number names x free) (λ at had is. inl is) made at had
+    put number names x (starting x) y (filled x records [] names tt seen) (vacant number records names x free) (λ at had is. inl is) made at had
 
 pub gone : (records names : List (String Global)) (number : ℕ) (x : Folder) (y : Program) → PutsAside records names number x y → y.runs ≡ true
     → AreAway names y.folder
 gone records names number x y (seen, (free, made)) runs =
-    away number names x (starting x) y (filled x records [] names tt seen) (vacant number names x free) made runs
+    away number names x (starting x) y (filled x records [] names tt seen) (vacant number records names x free) made runs
 
 pub often : (records : List (String Global)) (count : ℕ) (x y : Folder) (at had : List ℕ) → PutAsideOften records count x y → x at ≡ Some had
     → HasBehind y at had

@@ -13,7 +13,7 @@ use Rattle.dali_folder_laws.specs.Stops.{Program, starting, Makes, Sees}
 abbrev pub PutsAside : List (String Global) → List (String Global) → ℕ → Folder → Program → Type 0
 PutsAside records names number x y =
     AreFilled Sees (starting x) [] records names
-    × AreRenamed Makes Sees names number (starting x) y
+    × AreRenamed Makes Sees records names number (starting x) y
 
 -- none of these names has anything
 abbrev pub AreAway : List (String Global) → Folder → Type 0

@@ -63,6 +63,17 @@ fn all_gear_lose_their_short_addresses(rt: HostRuntime) {
     );
 }
 
+/// No file is put aside where another one is to lie that is named, though it is not there yet.
+#[test]
+fn a_file_is_not_put_aside_under_a_name_of_the_call(rt: HostRuntime) {
+    let (cabinet, bus) = (Cabinet::new(rt.alloc()), Bus::with(rt.alloc(), &FOUR));
+    assert!(rt; cabinet.has_put("site.db", &[(2, 7, 0xABCDEF)]));
+    let words = b"dali_commission clear --yes --records site.db --records site.db.before-1";
+    let said = "site.db: the old file is kept as site.db.before-2\n";
+    ends_over(&rt, words, &cabinet, &bus, 0, said);
+    assert!(rt; cabinet.is("site.db.before-2", &[(2, 7, 0xABCDEF)]) && cabinet.count() == 1);
+}
+
 /// What a replacement that was stopped has left beside a file is put aside, and hinders no replacement of the new site.
 #[test]
 fn new_files_of_a_replacement_are_put_aside(rt: HostRuntime) {
