@@ -1,4 +1,4 @@
-use Rattle.std.proofs.Common.{◌≡◌, ◌⊎◌, ℕ, ◌+◌, List, [], ◌∷◌, Option, Some, None, Ok, Err, refl, sym, ap, inl, inr}
+use Rattle.std.proofs.Common.{◌≡◌, ◌⊎◌, ℕ, ◌+◌, List, [], ◌∷◌, Option, Some, None, Result, Ok, Err, refl, sym, ap, inl, inr}
 use Rattle.std.{proofs.lemmas.Bool.false≢true, specs.declared.alloc.Global.Global, specs.declared.string.String.String}
 use Rattle.dali_script.specs.{Records.Kept, declared.block.Block.Block, declared.orders.Input.TheVariants.Survey, declared.records.Record.Record}
 use Rattle.dali_commissioning.specs.{Drivers.Talk, Drivers.talk_of, declared.census.Reply.Reply}
@@ -6,7 +6,7 @@ use Rattle.dali_commissioning.specs.declared.census.Reply.TheVariants as heard
 use Rattle.dali_commissioning.specs.declared.driver.DriverLink.{DriverLink}
 use Rattle.dali_replacement.specs.declared.come.Come.{Come, TheVariants.Nowhere, TheVariants.Reserved, TheVariants.Given}
 use Rattle.dali_replacement.specs.{Standing.{IsHeard, AreHeard}, Swapping.names_of}
-use Rattle.dali_commission_said.specs.declared.said.Said.{Said}
+use Rattle.dali_commission_said.specs.declared.{failure.Failure.Failure, said.Said.Said}
 use Rattle.dali_commission_tasks.specs.declared.tasks.Replacement.{Replacement}
 use Rattle.dali_commission_stores.specs.{Calls.{Call, Look}, declared.records.Seen.Seen}
 use Rattle.dali_commission_replaced.specs.Asking.{HasAskedOthers, IsConfirmed, HasGivenSo, GivesFirst, HasReplacedSo, HasReplaced}
@@ -18,7 +18,7 @@ heard_one : (table : Kept) (a : ℕ) (r : Reply) (x y : Talk) → IsHeard table 
 heard_one table a r x y (inl (none, is, same)) = stays x y same
 heard_one table a r x y (inr (some, answered)) = grown (answered_more a r x y answered)
 
-all_heard : (table : Kept) (a : ℕ) (replies : List Reply) (x y : Talk) → AreHeard table a replies x y → Grows x y
+pub all_heard : (table : Kept) (a : ℕ) (replies : List Reply) (x y : Talk) → AreHeard table a replies x y → Grows x y
 all_heard table a [] x y same = stays x y same
 all_heard table a (r ∷ more) x y (mid, first, rest) = joined (heard_one table a r x mid first) (all_heard table (a + 1) more mid y rest)
 
@@ -32,33 +32,32 @@ confirmed_more saw told a gone stores names random x y (tables, read, (table, gi
     more_then (others_more a (Given given) table gone x at others) (grown (answered_more a (heard.Random random) at y answered))
 
 given_so : {S : Type 0} (is_up is_sound : S → Type 0) (holds : S → List Record → Type 0) (kept_of : S → Kept) (block : Block) (told : Said → Type 0)
-    (a : ℕ) (table : Kept) (keep : S) (x y : Talk) → HasGivenSo is_up is_sound holds kept_of block told a table keep x y → Grows x y
-given_so is_up is_sound holds kept_of block told a table keep x y it =
+    (a : ℕ) (table : Kept) (keep : S) (x y : Talk) (r : Result (Unit {0}) Failure)
+    → HasGivenSo is_up is_sound holds kept_of block told a table keep x y r → Grows x y
+given_so is_up is_sound holds kept_of block told a table keep x y r it =
     joined (runs_put is_up is_sound holds block Survey it.gave.filled it.mid x it.at it.gave.runs it.gave.ran)
     (at_last it.pass it.after.enrolled it.last it.at y it.asked)
 
 -- the address is given, once a gear was looked for, or without that
 given_first : {F K R W : Type 0} (is_up is_sound : K → Type 0) (holds : K → List Record → Type 0) (kept_of : K → Kept) (block_of : K → Block)
-    (saw : F → Look → Type 0) (opens : F → Seen → K → Type 0) (remaining : R → Option (List ℕ)) (contents : W → Option (List ℕ))
-    (told : Said → Type 0) (a : ℕ) (come : Come) (table : Kept) (stores : F) (name : List ℕ) (x y : DriverLink R W)
-    → GivesFirst is_up is_sound holds kept_of block_of saw opens remaining contents told a come table stores name x y
+    (made : F → F → Call → Type 0) (saw : F → Look → Type 0) (opens : F → Seen → K → Type 0) (remaining : R → Option (List ℕ))
+    (contents : W → Option (List ℕ)) (told : Said → Type 0) (a : ℕ) (come : Come) (table : Kept) (name : List ℕ) (stores given : F) (x y : DriverLink R W)
+    → GivesFirst is_up is_sound holds kept_of block_of made saw opens remaining contents told a come table name stores given x y
     → (come ≡ Nowhere) ⊎ Grows (talk_of remaining contents x) (talk_of remaining contents y)
-given_first is_up is_sound holds kept_of block_of saw opens remaining contents told a come table stores name x y (inl (r, is, same)) =
+given_first is_up is_sound holds kept_of block_of made saw opens remaining contents told a come table name stores given x y (inl (is, as_was, same)) =
     inr (stays _ _ (ap (λ d. talk_of remaining contents d) same))
-given_first is_up is_sound holds kept_of block_of saw opens remaining contents told a come table stores name x y
-    (inr (mid, looked, inl (err, same))) = absurd (false≢true err)
-given_first is_up is_sound holds kept_of block_of saw opens remaining contents told a come table stores name x y
-    (inr (mid, looked, inr (from, to, Err failure, open_so, came, well))) = absurd (ok_err failure (sym well))
-given_first is_up is_sound holds kept_of block_of saw opens remaining contents told a Nowhere table stores name x y
-    (inr (mid, looked, inr (from, to, Ok done, open_so, came, well))) = inl refl
-given_first is_up is_sound holds kept_of block_of saw opens remaining contents told a (Reserved r) table stores name x y
-    (inr (mid, looked, inr (from, to, Ok done, open_so, came, well))) =
+given_first is_up is_sound holds kept_of block_of made saw opens remaining contents told a come table name stores given x y
+    (inr (none, calls, (mid, looked, inl (err, same)))) = absurd (false≢true err)
+given_first is_up is_sound holds kept_of block_of made saw opens remaining contents told a come table name stores given x y
+    (inr (none, calls, (mid, looked, inr (from, to, Err failure, open_so, came, well)))) = absurd (ok_err failure (sym well))
+given_first is_up is_sound holds kept_of block_of made saw opens remaining contents told a Nowhere table name stores given x y
+    (inr (none, calls, (mid, looked, inr (from, to, Ok done, open_so, came, well)))) = inl refl
+given_first is_up is_sound holds kept_of block_of made saw opens remaining contents told a (Reserved r) table name stores given x y
+    (inr (none, calls, (mid, looked, inr (from, to, Ok done, open_so, came, well)))) =
     inr (joined (stays (talk_of remaining contents x) (talk_of remaining contents mid) looked)
-    (given_so is_up is_sound holds kept_of (block_of from) told a table to (talk_of remaining contents mid) (talk_of remaining contents y) came))
-given_first is_up is_sound holds kept_of block_of saw opens remaining contents told a (Given r) table stores name x y
-    (inr (mid, looked, inr (from, to, Ok done, open_so, came, well))) =
-    inr (joined (stays (talk_of remaining contents x) (talk_of remaining contents mid) looked)
-    (given_so is_up is_sound holds kept_of (block_of from) told a table to (talk_of remaining contents mid) (talk_of remaining contents y) came))
+    (given_so is_up is_sound holds kept_of (block_of from) told a table to (talk_of remaining contents mid) (talk_of remaining contents y) (Ok done) came))
+given_first is_up is_sound holds kept_of block_of made saw opens remaining contents told a (Given r) table name stores given x y
+    (inr (none, calls, (mid, looked, inr (from, to, Ok done, open_so, came, well)))) = absurd (false≢true (sym none))
 
 looked_or_more : (come : Come) (x before after y : Talk) → IsMore x before → (come ≡ Nowhere) ⊎ Grows before after → IsMore after y
     → (come ≡ Nowhere) ⊎ IsMore x y
@@ -82,16 +81,18 @@ replaced is_up is_sound holds kept_of block_of made saw opens remaining contents
     (talk_of remaining contents x) (talk_of remaining contents y) is) nothing)
 replaced is_up is_sound holds kept_of block_of made saw opens remaining contents told wanted records random was now x y
     (names, at, None, lies, apart, settled, anew) nothing =
-    let it : HasReplacedSo is_up is_sound holds kept_of block_of made saw opens remaining contents told wanted names anew.all random at x y =
-    anew.replaced in (
+    let it : HasReplacedSo is_up is_sound holds kept_of block_of made saw opens remaining contents told wanted names anew.all anew.news random at anew.at
+    x y = anew.replaced in (
       names,
       anew.all,
+      anew.news,
       at,
+      anew.at,
       it,
-      nothing_looked it.come (talk_of remaining contents x) (talk_of remaining contents y) nothing
-          (looked_or_more it.come _ (talk_of remaining contents it.before) (talk_of remaining contents it.after) _
-          (others_more wanted.short it.come it.table wanted.missing.items _ _ it.others)
-          (given_first is_up is_sound holds kept_of block_of saw opens remaining contents told wanted.short it.come it.table it.stores it.name it.before
-          it.after it.first)
+      nothing_looked it.plan.come (talk_of remaining contents x) (talk_of remaining contents y) nothing
+          (looked_or_more it.plan.come _ (talk_of remaining contents it.before) (talk_of remaining contents it.after) _
+          (others_more wanted.short it.plan.come it.plan.table wanted.missing.items _ _ it.others)
+          (given_first is_up is_sound holds kept_of block_of made saw opens remaining contents told wanted.short it.plan.come it.plan.table it.name
+          it.plan.stores it.given it.before it.after it.gave)
           (answered_more wanted.short (heard.Random random) _ _ it.last)),
     )

@@ -6,7 +6,10 @@ use Rattle.dali_script.specs.declared.records.Record.{Record}
 use Rattle.dali_script.specs.Records.{Kept}
 use Rattle.dali_commissioning.specs.declared.driver.DriverLink.{DriverLink}
 use Rattle.dali_commissioning.specs.Drivers.{Talk, talk_of}
+use Rattle.dali_replacement.specs.declared.come.Come.{Come}
 use Rattle.dali_replacement.specs.declared.come.Come.TheVariants.{Nowhere}
+use Rattle.dali_replacement.specs.declared.refusal.ReplaceRefusal.{ReplaceRefusal}
+use Rattle.dali_commission_said.specs.declared.failure.Failure.TheVariants.{NotReplaced}
 use Rattle.dali_commission_said.specs.declared.said.Said.{Said}
 use Rattle.dali_commission_stores.specs.Calls.{Call, Look}
 use Rattle.dali_commission_stores.specs.declared.records.Seen.{Seen}
@@ -14,6 +17,7 @@ use Rattle.dali_commission_tasks.specs.declared.tasks.Replacement.{Replacement}
 use Rattle.dali_commission_tasks.specs.declared.tasks.Task.{Task}
 use Rattle.dali_commission_tasks.specs.declared.tasks.Task.TheVariants as task
 use Rattle.dali_commission_replaced.specs.Asking.{HasReplacedSo}
+use Rattle.dali_commission_replaced.specs.Cut.{HasNotAskedOthers}
 use Rattle.dali_commission_program.specs.Done.{HasDone}
 
 -- NOTHING WAS PUT from one moment of the talk with a driver to another: all that was written is
@@ -34,6 +38,12 @@ PutsSomething {F = F} {R = R} {W = W} is_up is_sound holds kept_of block_of made
     records others was now x y (Ok (tt {0})) task
     → IsNothingPut (talk_of remaining contents x) (talk_of remaining contents y) → ⊥
 
+-- A REPLACEMENT THAT IS REFUSED because the others are not all there HAS PUT SOMETHING
+abbrev pub RefusedPutsSomething : Type 0
+RefusedPutsSomething =
+    (a : ℕ) (come : Come) (table : Kept) (gone : List ℕ) (why : ReplaceRefusal) (x y : Talk)
+    → HasNotAskedOthers a come table gone (NotReplaced a why) x y → IsNothingPut x y → ⊥
+
 -- A GEAR WITHOUT SHORT ADDRESS WAS LOOKED FOR in a replacement
 abbrev pub HasLookedIn : {F K R W : Type 0} (is_up is_sound : K → Type 0)
     (holds : K → List Record → Type 0) (kept_of : K → Kept) (block_of : K → Block)
@@ -44,10 +54,12 @@ HasLookedIn {F = F} is_up is_sound holds kept_of block_of made saw opens remaini
     wanted random x y =
     (names : List (String Global))
     × (all : List Kept)
+    × (news : List Kept)
+    × (was : F)
     × (at : F)
     × (it : HasReplacedSo is_up is_sound holds kept_of block_of made saw opens remaining contents
-    told wanted names all random at x y)
-    × (it.come ≡ Nowhere)
+    told wanted names all news random was at x y)
+    × (it.plan.come ≡ Nowhere)
 
 -- A REPLACEMENT THAT ENDED WELL HAS PUT SOMETHING, or it has looked for a gear: what is put until
 -- that has its random address is not told

@@ -3,7 +3,7 @@
 ghost use Rattle.std.specs.Prelude.{◌≡◌, ℕ, ◌<◌, false};
 ghost use Rattle.dali_commissioning.specs.Drivers.{Talk};
 ghost use Rattle.dali_commissioning.specs.Rules.{AsksByRules};
-ghost use Rattle.dali_commission_program.specs.Nothing.{PutsSomething, PutsOrLooks};
+ghost use Rattle.dali_commission_program.specs.Nothing.{PutsSomething, PutsOrLooks, RefusedPutsSomething};
 ghost use Rattle.dali_commission_program.specs.Ruled.{PutsSo, PutsOver, AsksOnBus};
 ghost use Rattle.dali_commission_replaced.specs.Ruled.{ReplacesByRules};
 ghost use Rattle.dali_commission_program.specs.Ruled.{WhatWasPutKeepsPromise, WhatASurveyLeavesKeepsRules};
@@ -23,7 +23,7 @@ use std::io::{Read, Write};
 
 /// A task that ended well has put something: no call of it ends well that wrote nothing to its driver. One case is left
 /// open: of a replacement that looks for the new gear (`Nowhere`), `HasLooked` does not tell what was put until the
-/// random address of that gear is known.
+/// random address of that gear is known. So has one that is refused because the others are not all there.
 pub fn tasks_that_end_well_put_something<S, F, R, W>(_system: &S)
 where
     S: Voice + Writes,
@@ -41,6 +41,7 @@ where
         (S.wrote _system.now) (task.Run setup) }
     ensures mend { (wanted : Mend) → PutsSomething F.Open.is_up F.Open.is_sound F.Open.holds F.Open.kept F.Open.block
         F.made F.saw F.opens R.remaining W.contents (S.told _system.now) (S.wrote _system.now) (task.Mend wanted) }
+    ensures refused { RefusedPutsSomething }
     ensures replace { (wanted : Replacement) → PutsOrLooks F.Open.is_up F.Open.is_sound F.Open.holds F.Open.kept
         F.Open.block F.made F.saw F.opens R.remaining W.contents (S.told _system.now) (S.wrote _system.now) wanted }
 {}

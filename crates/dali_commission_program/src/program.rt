@@ -84,7 +84,7 @@ where
         Task::Identify(short) => identify(system, driver, *short, report),
         Task::Table(form) => writes_table(system, stores, only(&asked.records), *form),
         Task::Replace(wanted) => {
-            let _heard = replaces(
+            match replaces(
                 system,
                 stores,
                 driver,
@@ -92,9 +92,13 @@ where
                 &asked.records,
                 wanted,
                 report,
-            )?;
-            note_first(alloc, stores, name, report);
-            Ok(())
+            ) {
+                Ok(_heard) => {
+                    note_first(alloc, stores, name, report);
+                    Ok(())
+                }
+                Err(failure) => Err(failure),
+            }
         }
         Task::Mend(wanted) => mends(system, stores, driver, manner, asked, wanted, report),
         Task::Clear => clears(system, stores, driver, manner, &asked.records, report),

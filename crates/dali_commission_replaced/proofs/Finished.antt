@@ -9,7 +9,7 @@ use Rattle.dali_commission_stores.specs.{Calls.{Call, Look, Lies}, Seen.IsFound}
 use Rattle.dali_commission_replaced.specs.{Finishing.{IsFinished, IsFoundSo, AreFinished, last_of}, Replacing.AreAtPlaces}
 
 -- a first name and the others
-pub split : (all : List (String Global)) (name : String Global) → name ≡ get_or all 0 name → 1 ≤ length all
+pub split : {T : Type 0} (all : List T) (name : T) → name ≡ get_or all 0 name → 1 ≤ length all
     → all ≡ name ∷ take (length all - 1) (drop 1 all)
 split [] name is some = absurd (omega (arith, some))
 split (x ∷ more) name is some =

@@ -1,3 +1,4 @@
+mod Cut
 pub mod Finished
 pub mod Given
 pub mod Ruled

@@ -1,4 +1,4 @@
-use Rattle.std.proofs.Common.{ℕ, ◌<◌, ◌≤◌, ◌+◌, arith, List, [], ◌∷◌, Option, Some, None, Ok, Err, false, sym, ap, subst, inl, inr, length}
+use Rattle.std.proofs.Common.{ℕ, ◌<◌, ◌≤◌, ◌+◌, arith, List, [], ◌∷◌, Option, Some, None, Result, Ok, Err, false, sym, ap, subst, inl, inr, length}
 use Rattle.std.{proofs.lemmas.Bool.false≢true, specs.declared.alloc.Global.Global, specs.declared.string.String.String}
 use Rattle.dali_script.specs.{Records.Kept, declared.block.Block.Block, declared.records.Record.Record}
 use Rattle.dali_script.specs.declared.{orders.Input.Input, orders.Input.TheVariants.Survey}
@@ -12,7 +12,7 @@ use Rattle.dali_reserve.specs.Store.{HasRecords}
 use Rattle.dali_replacement.specs.Swapping.{names_of}
 use Rattle.dali_replacement.specs.declared.come.Come.{Come, TheVariants.Nowhere, TheVariants.Reserved, TheVariants.Given}
 use Rattle.dali_replacement.specs.{Standing.IsHeard, Standing.AreHeard, Permit.HasLooked, Permit.alone}
-use Rattle.dali_commission_said.specs.declared.said.Said.{Said}
+use Rattle.dali_commission_said.specs.declared.{failure.Failure.Failure, said.Said.Said}
 use Rattle.dali_commission_tasks.specs.declared.tasks.Replacement.{Replacement}
 use Rattle.dali_commission_stores.specs.{Calls.{Call, Look}, declared.records.Seen.Seen}
 use Rattle.dali_commission_asked.proofs.Ruled.{at_last, ok_err}
@@ -48,9 +48,9 @@ module _ {K : Type 0} (is_up is_sound : K → Type 0) (holds : K → List Record
       runs_put is_up is_sound holds block first was keep x y (runs_keep_rules is_up is_sound holds block first was keep x y run before are)
 
   given_so : (kept_of : K → Kept) (block : Block) (told : Said → Type 0) (a : ℕ) (table : Kept) (keep : K) (x y : Talk)
-      → (it : HasGivenSo is_up is_sound holds kept_of block told a table keep x y)
+      (r : Result (Unit {0}) Failure) → (it : HasGivenSo is_up is_sound holds kept_of block told a table keep x y r)
       → PutsByRules is_up is_sound holds (alone a) it.gave.filled keep x y
-  given_so kept_of block told a table keep x y it =
+  given_so kept_of block told a table keep x y r it =
       subst (λ b. PutsByRules is_up is_sound holds b it.gave.filled keep x y) it.gave.of
       (puts_read is_up is_sound holds block it.of it.after it.gave.filled it.mid keep x y
       (puts_ask is_up is_sound holds block it.gave.filled it.mid x it.at y
@@ -98,21 +98,21 @@ module _ {K : Type 0} (is_up is_sound : K → Type 0) (holds : K → List Record
       inr (was, keep, inr (before, at, table, first, looks, puts_ask is_up is_sound holds (alone a) was keep at after y puts last))
 
 given_first : {F K R W : Type 0} (is_up is_sound : K → Type 0) (holds : K → List Record → Type 0) (kept_of : K → Kept) (block_of : K → Block)
-    (saw : F → Look → Type 0) (opens : F → Seen → K → Type 0) (remaining : R → Option (List ℕ)) (contents : W → Option (List ℕ))
-    (told : Said → Type 0) (a : ℕ) (come : Come) (table : Kept) (stores : F) (name : List ℕ) (x y : DriverLink R W)
-    → GivesFirst is_up is_sound holds kept_of block_of saw opens remaining contents told a come table stores name x y
+    (made : F → F → Call → Type 0) (saw : F → Look → Type 0) (opens : F → Seen → K → Type 0) (remaining : R → Option (List ℕ))
+    (contents : W → Option (List ℕ)) (told : Said → Type 0) (a : ℕ) (come : Come) (table : Kept) (name : List ℕ) (stores given : F) (x y : DriverLink R W)
+    → GivesFirst is_up is_sound holds kept_of block_of made saw opens remaining contents told a come table name stores given x y
     → GivesByRules is_up is_sound holds a (talk_of remaining contents x) (talk_of remaining contents y)
-given_first is_up is_sound holds kept_of block_of saw opens remaining contents told a come table stores name x y (inl (r, is, same)) =
+given_first is_up is_sound holds kept_of block_of made saw opens remaining contents told a come table name stores given x y (inl (is, as_was, same)) =
     inl (asks_none _ _ (ap (λ d. talk_of remaining contents d) same))
-given_first is_up is_sound holds kept_of block_of saw opens remaining contents told a come table stores name x y
-    (inr (mid, looked, inl (err, same))) = absurd (false≢true err)
-given_first is_up is_sound holds kept_of block_of saw opens remaining contents told a come table stores name x y
-    (inr (mid, looked, inr (from, to, Err failure, open_so, came, well))) = absurd (ok_err failure (sym well))
-given_first is_up is_sound holds kept_of block_of saw opens remaining contents told a come table stores name x y
-    (inr (mid, looked, inr (from, to, Ok done, open_so, came, well))) =
+given_first is_up is_sound holds kept_of block_of made saw opens remaining contents told a come table name stores given x y
+    (inr (none, calls, (mid, looked, inl (err, same)))) = absurd (false≢true err)
+given_first is_up is_sound holds kept_of block_of made saw opens remaining contents told a come table name stores given x y
+    (inr (none, calls, (mid, looked, inr (from, to, Err failure, open_so, came, well)))) = absurd (ok_err failure (sym well))
+given_first is_up is_sound holds kept_of block_of made saw opens remaining contents told a come table name stores given x y
+    (inr (none, calls, (mid, looked, inr (from, to, Ok done, open_so, came, well)))) =
     gives is_up is_sound holds a table come came.gave.filled to (talk_of remaining contents x) (talk_of remaining contents mid)
     (talk_of remaining contents y) looked
-    (given_so is_up is_sound holds kept_of (block_of from) told a table to (talk_of remaining contents mid) (talk_of remaining contents y) came)
+    (given_so is_up is_sound holds kept_of (block_of from) told a table to (talk_of remaining contents mid) (talk_of remaining contents y) (Ok done) came)
 
 pub replaced : {F K R W : Type 0} (is_up is_sound : K → Type 0) (holds : K → List Record → Type 0) (kept_of : K → Kept) (block_of : K → Block)
     (made : F → F → Call → Type 0) (saw : F → Look → Type 0) (opens : F → Seen → K → Type 0) (remaining : R → Option (List ℕ))
@@ -126,11 +126,12 @@ replaced is_up is_sound holds kept_of block_of made saw opens remaining contents
     short is)
 replaced is_up is_sound holds kept_of block_of made saw opens remaining contents told wanted records random was now x y short
     (names, at, None, lies, apart, settled, anew) =
-    let it : HasReplacedSo is_up is_sound holds kept_of block_of made saw opens remaining contents told wanted names anew.all random at x y =
-    anew.replaced in
+    let it : HasReplacedSo is_up is_sound holds kept_of block_of made saw opens remaining contents told wanted names anew.all anew.news random at anew.at
+    x y = anew.replaced in
     gives_between is_up is_sound holds wanted.short (talk_of remaining contents x) (talk_of remaining contents it.before)
     (talk_of remaining contents it.after) (talk_of remaining contents y)
-    (others_asked wanted.short it.come it.table wanted.missing.items (talk_of remaining contents x) (talk_of remaining contents it.before) short it.others)
-    (given_first is_up is_sound holds kept_of block_of saw opens remaining contents told wanted.short it.come it.table it.stores it.name it.before it.after
-    it.first)
+    (others_asked wanted.short it.plan.come it.plan.table wanted.missing.items (talk_of remaining contents x) (talk_of remaining contents it.before) short
+    it.others)
+    (given_first is_up is_sound holds kept_of block_of made saw opens remaining contents told wanted.short it.plan.come it.plan.table it.name it.plan.stores
+    it.given it.before it.after it.gave)
     (answered wanted.short (heard.Random random) (talk_of remaining contents it.after) (talk_of remaining contents y) short it.last)

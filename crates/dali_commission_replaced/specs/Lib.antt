@@ -1,4 +1,6 @@
 pub mod Asking
+pub mod Cut
+pub mod Due
 pub mod Finishing
 pub mod Replacing
 pub mod Tellings

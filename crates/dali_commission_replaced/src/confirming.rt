@@ -1,17 +1,16 @@
 //! `replace` asks the bus: what is there before the address is given, and before anything is said of it.
 
-ghost use Rattle.std.specs.Prelude.{◌≡◌, ℕ, IfOk, IfErr, Result};
-ghost use Rattle.dali_commissioning.specs.declared.census.Reply.{Reply};
+ghost use Rattle.std.specs.Prelude.{◌≡◌, ℕ, IfOk, IfErr};
 ghost use Rattle.dali_commissioning.specs.declared.census.Reply.TheVariants as heard;
-ghost use Rattle.dali_commissioning.specs.declared.fault.CommissionFault.{CommissionFault};
 ghost use Rattle.dali_commissioning.specs.Census.{IsAnswered};
-ghost use Rattle.dali_commissioning.specs.Drivers.{talk_of, lines_of, IsCut};
+ghost use Rattle.dali_commissioning.specs.Drivers.{talk_of, lines_of};
 ghost use Rattle.dali_replacement.specs.Permit.{others_at, others_come, others_table, confirmed_at, confirmed_random};
 ghost use Rattle.dali_replacement.specs.Permit.{confirmed_table, IsNotConfirmed};
 ghost use Rattle.dali_replacement.specs.declared.refusal.ReplaceFault.{ReplaceFault};
 ghost use Rattle.dali_replacement.specs.Tables.{AreGiven};
-ghost use Rattle.dali_commission_said.specs.Failures.{fault_of, not_given};
-ghost use Rattle.dali_commission_replaced.specs.Asking.{HasAskedOthers, HasNotAskedOthers};
+ghost use Rattle.dali_commission_said.specs.Failures.{fault_of};
+ghost use Rattle.dali_commission_replaced.specs.Asking.{HasAskedOthers};
+ghost use Rattle.dali_commission_replaced.specs.Cut.{HasNotAskedOthers, IsNotInFirst};
 ghost use Rattle.dali_commission_replaced.specs.Tellings.{ConfirmedTold, gear_in};
 
 use arrayvec::ArrayVec;
@@ -92,7 +91,8 @@ impl<S: Voice> Asking<'_, S> {
         ensures short { IfOk result (λ others. others_at others ≡ self.now.wanted.now.short) }
         ensures come { IfOk result (λ others. others_come others ≡ come) }
         ensures table { IfOk result (λ others. others_table others ≡ table) }
-        ensures failed { IfErr result (λ failure. HasNotAskedOthers self.now.wanted.now.short come table failure
+        ensures failed { IfErr result (λ failure. HasNotAskedOthers self.now.wanted.now.short come table
+            self.now.wanted.now.missing.items failure
             (talk_of R.remaining W.contents driver.old) (talk_of R.remaining W.contents driver.new)) }
     {
         if self.manner != Manner::Quiet {
@@ -117,11 +117,8 @@ impl<S: Voice> Asking<'_, S> {
 
     /// The new gear has not got the address: who answers there is asked.
     pub fn not_given<R: Read, W: Write>(&self, driver: &mut DriverLink<R, W>) -> Failure
-        ensures { (heard : Result Reply CommissionFault)
-            × IfOk heard (λ reply. IsAnswered self.now.wanted.now.short reply
-            (talk_of R.remaining W.contents driver.old) (talk_of R.remaining W.contents driver.new))
-            × (result ≡ not_given self.now.wanted.now.short heard (lines_of driver.new))
-            × IfErr heard (λ reason. IsCut reason (talk_of R.remaining W.contents driver.new)) }
+        ensures { IsNotInFirst self.now.wanted.now.short result
+            (talk_of R.remaining W.contents driver.old) (talk_of R.remaining W.contents driver.new) }
     {
         match ask(driver, self.wanted.short) {
             Ok(Reply::Silence | Reply::Random(_)) => self.refusal(ReplaceRefusal::NotGiven),

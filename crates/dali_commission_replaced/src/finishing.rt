@@ -1,13 +1,14 @@
 //! An exchange of files that an earlier call has begun is brought to its end, and the bus is asked what is there.
 
-ghost use Rattle.std.specs.Prelude.{◌≡◌, IfOk, OnOk};
+ghost use Rattle.std.specs.Prelude.{◌≡◌, ◌⊎◌, IfOk, IfErr, OnOk};
 ghost use Rattle.dali_commissioning.specs.Drivers.{talk_of};
 ghost use Rattle.dali_replacement.specs.Permit.{confirmed_at, confirmed_random};
 ghost use Rattle.dali_replacement.specs.Swapping.{address_of, names_of};
 ghost use Rattle.dali_replacement.specs.Tables.{AreGiven};
 ghost use Rattle.dali_commission_said.specs.Failures.{although_exchanged};
 ghost use Rattle.dali_commission_stores.specs.Settled.{IsSettled, IsAlone};
-ghost use Rattle.dali_commission_replaced.specs.Asking.{HasConfirmed, IsConfirmed};
+ghost use Rattle.dali_commission_replaced.specs.Asking.{HasConfirmed, HasNotConfirmed, IsConfirmed};
+ghost use Rattle.dali_commission_replaced.specs.Asking.{IsNotConfirmedBy};
 ghost use Rattle.dali_commission_replaced.specs.Finishing.{IsFinished, IsFoundSo, AreFinished};
 ghost use Rattle.dali_commission_replaced.specs.Tellings.{FinishTold};
 
@@ -103,6 +104,9 @@ fn heard<S: Voice, R: Read, W: Write>(
         (talk_of R.remaining W.contents driver.old) (talk_of R.remaining W.contents driver.new)) }
     ensures given { IfOk result (λ seen. AreGiven asking.now.wanted.now.short (confirmed_random seen) tables.now) }
     ensures short { IfOk result (λ seen. confirmed_at seen ≡ asking.now.wanted.now.short) }
+    ensures failed { IfErr result (λ failure. HasNotConfirmed asking.now.wanted.now.short
+        asking.now.wanted.now.missing.items tables.now failure
+        (talk_of R.remaining W.contents driver.old) (talk_of R.remaining W.contents driver.new)) }
 {
     let short = asking.wanted.short;
     let random = match tables {
@@ -148,14 +152,20 @@ where
         asking.now.wanted.now.short asking.now.wanted.now.missing.items stores.now (names_of swap.now)
         (confirmed_random seen)
         (talk_of R.remaining W.contents driver.old) (talk_of R.remaining W.contents driver.new)) }
+    ensures failed { IfErr result (λ failure. (driver.new ≡ driver.old)
+        ⊎ IsNotConfirmedBy F.saw asking.now.wanted.now.short asking.now.wanted.now.missing.items stores.now
+        (names_of swap.now) failure
+        (talk_of R.remaining W.contents driver.old) (talk_of R.remaining W.contents driver.new)) }
 {
     let system = asking.system;
     let mut tables = Vec::new(system.alloc());
     read_all(system, stores, swap.names(), &mut tables)?;
     let heard = heard(asking, driver, &tables, report);
-    let confirmed = report
-        .note_lines(system, driver, heard)
-        .map_err(although_exchanged)?;
-    asking.say_confirmed(&confirmed, &tables);
-    Ok(confirmed)
+    match report.note_lines(system, driver, heard) {
+        Ok(confirmed) => {
+            asking.say_confirmed(&confirmed, &tables);
+            Ok(confirmed)
+        }
+        Err(failure) => Err(although_exchanged(failure)),
+    }
 }

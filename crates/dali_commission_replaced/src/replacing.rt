@@ -1,11 +1,11 @@
 //! `replace`: a new luminaire gets the short address of one that is gone.
 
-ghost use Rattle.std.specs.Prelude.{◌≡◌, ◌↔◌, ◌⊎◌, ℕ, List, [], ◌++◌, map, true, Some, IsTrue, IfOk, OnOk};
-ghost use Rattle.std.specs.Prelude.{string_bytes, option_map, slice_get, MatchOption, Ok};
+ghost use Rattle.std.specs.Prelude.{◌≡◌, ◌↔◌, ◌⊎◌, ℕ, List, [], ◌++◌, map, true, IsTrue, IfOk, IfErr, OnOk};
+ghost use Rattle.std.specs.Prelude.{string_bytes, IfSome, MatchOption, Ok, Err};
 ghost use Rattle.dali_script.specs.Records.{HasAddress};
 ghost use Rattle.dali_replacement.specs.Permit.{confirmed_at, others_at};
 ghost use Rattle.dali_replacement.specs.Tables.{IsGathered, Lacks};
-ghost use Rattle.dali_commission_stores.specs.Calls.{Lies, Read};
+ghost use Rattle.dali_commission_stores.specs.Calls.{AreMade, Lies, Read};
 ghost use Rattle.dali_commission_replaced.specs.Replacing.{IsAnywhere, IsGiver, IsDue, AreAside, AreAsideIf, HasCome};
 ghost use Rattle.dali_commission_replaced.specs.Replacing.{AreAtPlaces, IsApart, IsApartFrom, AreApart};
 ghost use Rattle.dali_commission_replaced.specs.Replacing.{AreUnannounced};
@@ -17,9 +17,10 @@ ghost use Rattle.dali_commissioning.specs.declared.census.Reply.TheVariants as h
 ghost use Rattle.dali_commissioning.specs.Census.{IsAnswered};
 ghost use Rattle.dali_commissioning.specs.Drivers.{talk_of};
 ghost use Rattle.dali_replacement.specs.Permit.{confirmed_random, others_come, others_table, permitted_at};
-ghost use Rattle.dali_commission_stores.specs.Lent.{IsLent, IsOpened};
-ghost use Rattle.dali_commission_replaced.specs.Asking.{HasGivenSo, HasGivenIn, GivesFirst};
-ghost use Rattle.dali_commission_replaced.specs.Asking.{HasReplacedSo, HasReplaced};
+ghost use Rattle.dali_commission_stores.specs.Lent.{IsLent, IsOpened, lent_calls};
+ghost use Rattle.dali_commission_replaced.specs.Asking.{given_as, GivesSo, is_given, IsGivenIn, GivesFirst, GivesNone};
+ghost use Rattle.dali_commission_replaced.specs.Asking.{IsNamed, HasNotGivenFirst, AreRenewed, IsNotDue};
+ghost use Rattle.dali_commission_replaced.specs.Asking.{HasReplacedSo, HasNotReplacedSo, HasReplaced, HasNotReplaced};
 
 use crate::confirming::Asking;
 use crate::finishing::{confirms, exchanged};
@@ -78,10 +79,10 @@ impl<S: Voice> Giving<'_, S> {
         &self,
         store: &mut K,
         driver: &mut DriverLink<R, W>,
-    ) -> Result<(Ended, bool), Failure>
-        ensures { OnOk result (HasGivenSo K.is_up K.is_sound K.holds K.kept (K.block store.old)
+    ) -> Result<(), Failure>
+        ensures { GivesSo K.is_up K.is_sound K.holds K.kept (K.block store.old)
             (S.told self.now.system.now) (permitted_at self.now.permit.now) self.now.table.now store.new
-            (talk_of R.remaining W.contents driver.old) (talk_of R.remaining W.contents driver.new)) }
+            (talk_of R.remaining W.contents driver.old) (talk_of R.remaining W.contents driver.new) result }
     {
         let (system, permit, table) = (self.system, self.permit, self.table);
         let mut progress = Progress::new(system, self.manner, 1);
@@ -98,27 +99,33 @@ impl<S: Voice> Giving<'_, S> {
         };
         let pass = last.pass(&pass);
         say_all(system, &ended_said(&pass, &kept, progress.aim()));
-        Ok((pass.ended, last.is_there))
+        given_as(pass.ended, last.is_there)
     }
 }
 
 impl<K: Keep, S: Voice, R: Read, W: Write> Borrower<K, DriverLink<R, W>> for Giving<'_, S> {
     type Out = ();
 
-    ghost use Rattle.std.specs.Prelude.{OnOk};
     ghost use Rattle.dali_commissioning.specs.Drivers.{talk_of};
     ghost use Rattle.dali_replacement.specs.Permit.{permitted_at};
-    ghost use Rattle.dali_commission_replaced.specs.Asking.{HasGivenSo};
+    ghost use Rattle.dali_commission_replaced.specs.Asking.{GivesSo};
 
-    ghost came = { λ giving from to x y result. OnOk result (HasGivenSo K.is_up K.is_sound K.holds K.kept (K.block from)
+    ghost came = { λ giving from to x y result. GivesSo K.is_up K.is_sound K.holds K.kept (K.block from)
         (S.told giving.system.now) (permitted_at giving.permit.now) giving.table.now to
-        (talk_of R.remaining W.contents x) (talk_of R.remaining W.contents y)) };
+        (talk_of R.remaining W.contents x) (talk_of R.remaining W.contents y) result };
 
     fn take(self, store: &mut K, driver: &mut DriverLink<R, W>) -> Result<(), Failure> {
-        match self.gives(store, driver)? {
-            (Ended::Done(End::BlockFull), _) => Ok(()),
-            (ended, is_there) => ended_as(ended, is_there),
-        }
+        self.gives(store, driver)
+    }
+}
+
+/// What the end of the surveys is to the program. Whether the new gear has the address the records say.
+fn given_as(ended: Ended, is_there: bool) -> Result<(), Failure>
+    ensures { result ≡ given_as ended is_there }
+{
+    match ended {
+        Ended::Done(End::BlockFull) => Ok(()),
+        Ended::Done(End::AllFound | End::GaveUp) | Ended::Halted(_) => ended_as(ended, is_there),
     }
 }
 
@@ -250,7 +257,7 @@ impl<S: Voice + AllocGlobal> Replacing<'_, S> {
         Ok(Plan { table, giver, come })
     }
 
-    /// Lends the new file of a name.
+    /// Lends the new file of a name, and reads it then.
     fn renew<F: Stores, D, B: Borrower<F::Open, D, Out = ()>>(
         &self,
         stores: &mut F,
@@ -262,6 +269,9 @@ impl<S: Voice + AllocGlobal> Replacing<'_, S> {
         ensures seen { IfOk result (λ kept. F.saw stores.new (Read (new_at name.now) kept)) }
         ensures lent { OnOk result (IsLent (IsOpened F.Open.block F.saw F.opens stores.old (new_at name.now) block)
             (B.came borrower) beside.old beside.new (Ok tt)) }
+        ensures made { OnOk result (AreMade F.made (lent_calls (new_at name.now)) stores.old stores.new) }
+        ensures failed { IfErr result (λ failure. IsLent (IsOpened F.Open.block F.saw F.opens stores.old
+            (new_at name.now) block) (B.came borrower) beside.old beside.new (Err failure)) }
     {
         let system = self.asking.system;
         let new = new_of(system.alloc(), name)?;
@@ -270,25 +280,34 @@ impl<S: Voice + AllocGlobal> Replacing<'_, S> {
         read(system, stores, &new)
     }
 
-    /// The new table of each file, if the giver's has been this one.
-    fn news<F: Stores>(
+    /// Adds the new table of each of these files, if the giver's has been this one.
+    #[tactic(auto, using(std::proofs::lemmas::List::append_assoc))]
+    fn renew_all<F: Stores>(
         &self,
         stores: &mut F,
-        all: &[Kept],
+        names: &[String],
+        olds: &[Kept],
         first: &Kept,
-    ) -> Result<Vec<Kept>, Failure> {
-        let mut news = Vec::new(self.asking.system.alloc());
-        for (name, old) in self.names.iter().zip(all) {
-            let filling = Filling {
-                from: first,
-                before: old,
-            };
-            add(
-                &mut news,
-                self.renew(stores, name, Block::ALL, filling, &mut ())?,
-            )?;
-        }
-        Ok(news)
+        news: &mut Vec<Kept>,
+    ) -> Result<(), Failure>
+        ensures { OnOk result (AreRenewed F.Open.kept F.Open.block F.made F.saw F.opens first.now names.now olds.now
+            stores.old stores.new news.old.items news.new.items) }
+    {
+        let [name, more @ ..] = names else {
+            return Ok(());
+        };
+        let [old, others @ ..] = olds else {
+            return Ok(());
+        };
+        let filling = Filling {
+            from: first,
+            before: old,
+        };
+        add(
+            news,
+            self.renew(stores, name, Block::ALL, filling, &mut ())?,
+        )?;
+        self.renew_all(stores, more, others, first, news)
     }
 
     /// The names of the files.
@@ -309,9 +328,15 @@ impl<S: Voice + AllocGlobal> Replacing<'_, S> {
         others: &OthersThere,
     ) -> Result<Kept, Failure>
         ensures seen { IfOk result (λ kept. F.saw stores.new (Read (new_at name.now) kept)) }
-        ensures gave { OnOk result (HasGivenIn F.Open.is_up F.Open.is_sound F.Open.holds F.Open.kept F.Open.block
+        ensures made { OnOk result (AreMade F.made (lent_calls (new_at name.now)) stores.old stores.new) }
+        ensures gave { OnOk result (IsGivenIn F.Open.is_up F.Open.is_sound F.Open.holds F.Open.kept F.Open.block
             F.saw F.opens R.remaining W.contents (S.told self.now.asking.now.system.now) (others_at others.now)
-            (others_come others.now) (others_table others.now) stores.old name.now driver.old driver.new) }
+            (others_come others.now) (others_table others.now) stores.old name.now driver.old driver.new (Ok tt)) }
+        ensures failed { others_at others.now ≡ self.now.asking.now.wanted.now.short
+            → IfErr result (λ failure. GivesNone F.Open.is_up F.Open.is_sound F.Open.holds F.Open.kept
+            F.Open.block F.saw F.opens R.remaining W.contents (S.told self.now.asking.now.system.now)
+            self.now.asking.now.wanted.now.short (others_come others.now) (others_table others.now) stores.old
+            name.now failure driver.old driver.new) }
     {
         let asking = self.asking;
         let permit = match others.look(driver) {
@@ -335,20 +360,25 @@ impl<S: Voice + AllocGlobal> Replacing<'_, S> {
         giver: usize,
         others: &OthersThere,
     ) -> Result<Kept, Failure>
-        ensures { IfOk result (λ kept. (name : List ℕ)
-            × (option_map (λ it. string_bytes it) (slice_get self.now.names.now giver) ≡ Some name)
+        ensures gave { IfOk result (λ kept. (name : List ℕ)
+            × IsNamed self.now.names.now giver name
             × F.saw stores.new (Read (new_at name) kept)
-            × GivesFirst F.Open.is_up F.Open.is_sound F.Open.holds F.Open.kept F.Open.block
+            × GivesFirst F.Open.is_up F.Open.is_sound F.Open.holds F.Open.kept F.Open.block F.made
             F.saw F.opens R.remaining W.contents (S.told self.now.asking.now.system.now) (others_at others.now)
-            (others_come others.now) (others_table others.now) stores.old name driver.old driver.new) }
+            (others_come others.now) (others_table others.now) name stores.old stores.new driver.old driver.new) }
+        ensures failed { others_at others.now ≡ self.now.asking.now.wanted.now.short
+            → IfErr result (λ failure. HasNotGivenFirst F.Open.is_up F.Open.is_sound F.Open.holds F.Open.kept
+            F.Open.block F.saw F.opens R.remaining W.contents (S.told self.now.asking.now.system.now)
+            self.now.asking.now.wanted.now.short (others_come others.now) (others_table others.now)
+            self.now.names.now giver stores.old failure driver.old driver.new) }
     {
-        let Some(name) = self.names.get(giver) else {
+        let Some(name) = name_of(self.names, giver) else {
             return Err(REFUSED);
         };
         if !matches!(others.come(), Come::Nowhere) {
             say(self.asking.system, &Said::GoneOn);
         }
-        if matches!(others.come(), Come::Given(_)) {
+        if is_given(others.come()) {
             read(
                 self.asking.system,
                 stores,
@@ -372,9 +402,16 @@ impl<S: Voice + AllocGlobal> Replacing<'_, S> {
         ensures last { IfOk result (λ due. IsAnswered (others_at others)
             (heard.Random (confirmed_random due.confirmed)) (talk_of R.remaining W.contents driver.old)
             (talk_of R.remaining W.contents driver.new)) }
+        ensures renewed { IfOk result (λ due. AreRenewed F.Open.kept F.Open.block F.made F.saw F.opens first.now
+            self.now.names.now all.now stores.old stores.new [] due.news.items) }
+        ensures failed { others_at others ≡ self.now.asking.now.wanted.now.short
+            → IfErr result (λ failure. IsNotDue F.Open.kept F.Open.block F.made F.saw F.opens
+            self.now.asking.now.wanted.now.short self.now.names.now all.now first.now stores.old failure
+            (talk_of R.remaining W.contents driver.old) (talk_of R.remaining W.contents driver.new)) }
     {
         let asking = self.asking;
-        let news = self.news(stores, all, first)?;
+        let mut news = Vec::new(asking.system.alloc());
+        self.renew_all(stores, self.names, all, first, &mut news)?;
         let confirmed = asking.confirm(driver, others, &news)?;
         let number = free_number(asking.system.alloc(), stores, self.names, &[])?;
         match Swap::of(&confirmed, all, &news, number, self.copied_names()?) {
@@ -398,7 +435,12 @@ impl<S: Voice + AllocGlobal> Replacing<'_, S> {
         ensures replaced { IfOk result (λ due. HasReplacedSo F.Open.is_up F.Open.is_sound F.Open.holds F.Open.kept
             F.Open.block F.made
             F.saw F.opens R.remaining W.contents (S.told self.old.asking.now.system.now) self.old.asking.now.wanted.now
-            self.old.names.now all.now (confirmed_random due.confirmed) stores.old driver.old driver.new) }
+            self.old.names.now all.now due.news.items (confirmed_random due.confirmed) stores.old stores.new
+            driver.old driver.new) }
+        ensures failed { IfErr result (λ failure. (driver.new ≡ driver.old)
+            ⊎ HasNotReplacedSo F.Open.is_up F.Open.is_sound F.Open.holds F.Open.kept F.Open.block F.made
+            F.saw F.opens R.remaining W.contents (S.told self.old.asking.now.system.now) self.old.asking.now.wanted.now
+            self.old.names.now all.now failure stores.old driver.old driver.new) }
     {
         let asking = self.asking;
         put_aside_if(asking.wanted.is_again, asking.system, stores, self.names)?;
@@ -407,10 +449,31 @@ impl<S: Voice + AllocGlobal> Replacing<'_, S> {
         let others = asking.others_there(driver, plan.come, plan.table, self.report)?;
         let first = self.first(stores, driver, giver, &others)?;
         // What else the giver's new file has reserved tells a later call that the address is given there.
-        if first.enrolled_at(asking.wanted.short).is_none() {
-            return Err(asking.not_given(driver));
+        if has_address(&first, asking.wanted.short) {
+            self.due(stores, driver, all, others, &first)
+        } else {
+            Err(asking.not_given(driver))
         }
-        self.due(stores, driver, all, others, &first)
+    }
+}
+
+/// The name of a file, by its number.
+fn name_of(names: &[String], number: usize) -> Option<&str>
+    ensures { IfSome result (λ name. IsNamed names.now number name.now) }
+{
+    match names.get(number) {
+        Some(name) => Some(name.as_str()),
+        None => None,
+    }
+}
+
+/// Whether an earlier call has given the short address.
+fn is_given(come: &Come) -> bool
+    ensures { result ≡ is_given come.now }
+{
+    match *come {
+        Come::Nowhere | Come::Reserved(_) => false,
+        Come::Given(_) => true,
     }
 }
 
@@ -477,18 +540,13 @@ impl<S: Voice + AllocGlobal, F: Stores, R: Read, W: Write> Holder<F, DriverLink<
 
     type Out = DueSwap;
 
-    ghost use Rattle.std.specs.Prelude.{◌≡◌, IfOk};
-    ghost use Rattle.dali_replacement.specs.Permit.{confirmed_random};
-    ghost use Rattle.dali_commission_replaced.specs.Asking.{HasReplacedSo};
-    ghost use Rattle.dali_commission_replaced.specs.Replacing.{AreUnannounced, IsDue};
+    ghost use Rattle.std.specs.Prelude.{◌≡◌};
+    ghost use Rattle.dali_commission_replaced.specs.Due.{Dues};
     ghost use Rattle.dali_commission_stores.specs.Settled.{IsExchanged};
 
-    ghost dues = { λ replacing all was _ x y result. IfOk result (λ due.
-        AreUnannounced F.saw was replacing.names.now
-        × IsDue replacing.asking.now.wanted.now.short replacing.names.now all due
-        × HasReplacedSo F.Open.is_up F.Open.is_sound F.Open.holds F.Open.kept F.Open.block F.made
-        F.saw F.opens R.remaining W.contents (S.told replacing.asking.now.system.now) replacing.asking.now.wanted.now
-        replacing.names.now all (confirmed_random due.confirmed) was x y) };
+    ghost dues = { λ replacing all was at x y result. Dues F.Open.is_up F.Open.is_sound F.Open.holds F.Open.kept
+        F.Open.block F.made F.saw F.opens R.remaining W.contents (S.told replacing.asking.now.system.now)
+        replacing.asking.now.wanted.now replacing.names.now all was at x y result };
 
     ghost ends = { λ _ from to due out. IsExchanged F.made F.saw due.swap from to × (out ≡ due) };
 
@@ -631,6 +689,9 @@ where
         F.Open.block F.made
         F.saw F.opens R.remaining W.contents (S.told system.now) wanted.now records.now (confirmed_random seen)
         stores.old stores.new driver.old driver.new) }
+    ensures failed { IfErr result (λ failure. HasNotReplaced F.Open.is_up F.Open.is_sound F.Open.holds F.Open.kept
+        F.Open.block F.made F.saw F.opens R.remaining W.contents (S.told system.now) wanted.now records.now failure
+        stores.old driver.old driver.new) }
 {
     let asking = Asking {
         system,

@@ -127,8 +127,7 @@ named_by m h o a b r due given asks told drawn =
 
 heard_step : (m : Machine) (h : Answer) (o : Order) (a : ℕ) → accepts (due_after m.last) (input.Heard h) ≡ true → IsGiven m (input.Heard h) o
     → Leaves m.course.purpose (stage_of (machine_told m (input.Heard h)).trace)
-    (heard_after m.course.purpose (stage_of (machine_told m (input.Heard h)).trace) h m.heard) a
-    → IsAccounted (machine_after m (input.Heard h) o) a
+    (heard_after m.course.purpose (stage_of (machine_told m (input.Heard h)).trace) h m.heard) a → IsAccounted (machine_after m (input.Heard h) o) a
 heard_step m h o a due given (inl marked) =
     let put = put_of m.last h due in
     inl (ap (λ s. has_short s a) (told_heard m put.0 h put.1) ∙ marked)
@@ -141,8 +140,8 @@ committed_heard m (Some x) = refl
 
 -- what a machine is told leaves what each way to be told something leaves
 pub told_keeps : (P : Machine → Type 0) (m : Machine) (i : Input) → P m → P (machine_surveying m)
-    → ((f : Forward) (h : Answer) → P (machine_heard m (Some f) h))
-    → P (machine_lost m) → ((x : Record) → P (machine_committed m (Some x))) → P (machine_told m i)
+    → ((f : Forward) (h : Answer) → P (machine_heard m (Some f) h)) → P (machine_lost m) → ((x : Record) → P (machine_committed m (Some x)))
+    → P (machine_told m i)
 told_keeps P m (input.Heard h) is surveys heard lost kept = go (frame_put m.last) where
   go : (f : Option Forward) → P (machine_heard m f h)
   go None = is
@@ -195,9 +194,9 @@ pub accounted_by : (m : Machine) (i : Input) (o : Order) (a : ℕ) → a < 64 �
     → IsGiven m i o → heard_by i m.course.purpose (stage_of (machine_told m i).trace) ≡ Some a → IsAccounted (machine_after m i o) a
 accounted_by m (input.Heard h) o a small plain due given e =
     let is = heard_of_survey m.course.purpose h (stage_of (machine_told m (input.Heard h)).trace) a e in
-    heard_step m h o a due given
-    (subst (λ p. Leaves p (stage_of (machine_told m (input.Heard h)).trace) (heard_after p (stage_of (machine_told m (input.Heard h)).trace) h m.heard) a)
-    (sym is.1) (marks_made is.0 (stage_of (machine_told m (input.Heard h)).trace) h m.heard a small plain is.2))
+    heard_step m h o a due given (subst (λ p. Leaves p (stage_of (machine_told m (input.Heard h)).trace)
+    (heard_after p (stage_of (machine_told m (input.Heard h)).trace) h m.heard) a) (sym is.1)
+    (marks_made is.0 (stage_of (machine_told m (input.Heard h)).trace) h m.heard a small plain is.2))
 accounted_by m _ o a small plain due given e = absurd (cc)
 
 -- ---------------------------------------------------------------- a course
@@ -205,8 +204,7 @@ accounted_by m _ o a small plain due given e = absurd (cc)
 pub accounted : (steps : List Step) (n : Machine) (a : ℕ) → a < 64 → IsCourse steps n → ArePlain steps → WasHeard steps a → IsAccounted n a
 accounted [] n a small course plain heard = elim heard [ ]
 accounted (s ∷ earlier) n a small course plain (inl here) =
-    subst (λ (x : Machine). IsAccounted x a) (sym course.1.after)
-    (accounted_by s.before s.told s.order a small plain.0 course.1.due course.1.given here)
+    subst (λ (x : Machine). IsAccounted x a) (sym course.1.after) (accounted_by s.before s.told s.order a small plain.0 course.1.due course.1.given here)
 accounted (s ∷ earlier) n a small course plain (inr before) =
     accounted_stays s n a small course.1 plain.0 (accounted earlier s.before a small course.0 plain.1 before)
 
@@ -245,8 +243,7 @@ reserves_open t r a n (Some b) free least is = absurd (given (is_withheld t b (v
   given false is = cc
 reserves_open t r a n None (Some c) least is =
     let same : c ≡ a = cc in
-    subst (λ x. is_open t.kept t.heard x ≡ true) same
-    (open_is t.kept t.heard (t.kept.block.last + 1 - t.kept.block.first) t.kept.block.first c least)
+    subst (λ x. is_open t.kept t.heard x ≡ true) same (open_is t.kept t.heard (t.kept.block.last + 1 - t.kept.block.first) t.kept.block.first c least)
 reserves_open t r a n None None least is = absurd (cc)
 
 surveys_open : (y : Way) (t : Machine) (c : Course) (r : SearchAddress) (a n : ℕ) → (y ≡ Fresh → ⊥) → AfterMaskOn y t c r (Commit (Reserve a n))
@@ -323,9 +320,8 @@ surveyed_mask Surveying t c q o other is = is
 
 -- so if some gear was heard, the address is the gear's own
 gives_own : (t : Machine) (q : SearchAddress) (a : ℕ) (p : ℕ) (f : Forward) → (t.course.way ≡ Fresh → ⊥) → t.course.opened ≡ true
-    → stage_of t.trace ≡ stage.Unnamed q
-    → address_for t.kept.reserved (value_of q) ≡ Some a → IsOrdered t (Put p f) → p ≡ LATER → IsAccounted (machine_ordered t (Put p f)) a
-    → Has t.kept.enrolled (a, value_of q)
+    → stage_of t.trace ≡ stage.Unnamed q → address_for t.kept.reserved (value_of q) ≡ Some a → IsOrdered t (Put p f) → p ≡ LATER
+    → IsAccounted (machine_ordered t (Put p f)) a → Has t.kept.enrolled (a, value_of q)
 gives_own t q a p f other opened told reserved ordered later held =
     let mask : AfterMaskSurveyed t q (Put p f) = surveyed_mask t.course.way t (course_by t (Put p f)) q (Put p f) other (ordered.unnamed q told) in
     let here : AfterReserved t a (is_withheld t a (value_of q)) (Put p f) =

@@ -41,13 +41,7 @@ module _ (K : Controller → Machine → Type 0) (H : Machine → Option Order �
     machine = at_first c (controller_at (world s) c).records;
     there = a.machine;
     goes = record {
-      lone = record {
-        up = a.up;
-        kept = refl;
-        last = sym a.last;
-        addresses = rw a.last tt;
-        moment = rw (a.last, a.told) ((a.bus, a.trace), refl);
-      };
+      lone = record { up = a.up; kept = refl; last = sym a.last; addresses = rw a.last tt; moment = rw (a.last, a.told) ((a.bus, a.trace), refl) };
       known = known;
       holds = holds_of H (at_first c (controller_at (world s) c).records) (world s) c None (Some input.Start) (world s).gear a.last a.told holds;
     };
@@ -69,8 +63,8 @@ module _ (K : Controller → Machine → Type 0) (H : Machine → Option Order �
       (held_by s c r.machine (Some (Done e)) None r r.there ended rests.1, rests.0)
 
   -- it goes on, if it has not halted
-  pub goes_by : (by : Bool) (s : SiteState) (c : ℕ) → RunsBy K H s c
-      → ((m : Machine) (why : Fault) → H m (Some (Halt why)) None (world s).gear → ⊥) → GoesOn by s c
+  pub goes_by : (by : Bool) (s : SiteState) (c : ℕ) → RunsBy K H s c → ((m : Machine) (why : Fault) → H m (Some (Halt why)) None (world s).gear → ⊥)
+      → GoesOn by s c
   goes_by by s c r never =
       go (due_by by (world s) s.queue c r.machine (controller_at (world s) c).last (controller_at (world s) c).told refl refl r.goes.lone.moment
       (λ why is none. never r.machine why (held_by s c r.machine (Some (Halt why)) None r r.there is none))) where
@@ -85,8 +79,7 @@ module _ (K : Controller → Machine → Type 0) (H : Machine → Option Order �
       → LeavesUsed s.plan.used (event.Acted c i o)
       → (IsRun s.plan s.queue (site_logged s (event.Acted c i o)).log → IsGivenBy (machine_told r.machine i) o
       → K (controller_at (happens (world s) (event.Acted c i o)) c) (machine_after r.machine i o)
-      × After (machine_after r.machine i o) (Some o) None (world s).gear)
-      → RunsBy K After (site_logged s (event.Acted c i o)) c
+      × After (machine_after r.machine i o) (Some o) None (world s).gear) → RunsBy K After (site_logged s (event.Acted c i o)) c
   acted_to After by s c i o r here good may leaves acts =
       let w : World = world s in
       let run = run_logged s (event.Acted c i o) r.run here leaves in
@@ -99,8 +92,8 @@ module _ (K : Controller → Machine → Type 0) (H : Machine → Option Order �
         goes = subst (λ v. GoesBy K After v s.queue c (machine_after r.machine i o)) (sym (world_logged s (event.Acted c i o))) (record {
           lone = lone_acted by w s.queue c r.machine i o r.goes.lone good (addresses_by o given.ordered.addressing) here;
           known = out.0;
-          holds = holds_of After (machine_after r.machine i o) (happens w (event.Acted c i o)) c (Some o) None w.gear
-              (acted_last w c i o r.goes.lone.up) (acted_told w c i o r.goes.lone.up) out.1;
+          holds = holds_of After (machine_after r.machine i o) (happens w (event.Acted c i o)) c (Some o) None w.gear (acted_last w c i o r.goes.lone.up)
+              (acted_told w c i o r.goes.lone.up) out.1;
         });
       }
 
@@ -130,17 +123,17 @@ module _ (K : Controller → Machine → Type 0) (H : Machine → Option Order �
   -- what is sent is the request that is next, and that is its frame
   pub sent_to : (P : Event → Type 0) (Heard : Command → Answer → Type 0) (s : SiteState) (c d : ℕ) (f : Forward) (h : Answer) → (r : RunsBy K H s c)
       → ((p : ℕ) (e : Forward) → r.machine.last ≡ Some (Put p e) → (controller_at (world s) c).told ≡ None → Allowed (world s) (event.Sent c e h)
-      → Heard (command_of e) h → P (event.Sent c e h))
-      → Allowed (world s) (event.Sent d f h)
-      → (q : Request) × (next_request s ≡ Some q) × (d ≡ q.sender) × (f ≡ q.frame) × Heard (command_of f) h → P (event.Sent d f h)
+      → Heard (command_of e) h
+      → P (event.Sent c e h)) → Allowed (world s) (event.Sent d f h) → (q : Request) × (next_request s ≡ Some q) × (d ≡ q.sender) × (f ≡ q.frame)
+      × Heard (command_of f) h → P (event.Sent d f h)
   sent_to P Heard s c d f h r frame here of =
       let put = lone_next (world s) s.queue c r.machine of.0 r.goes.lone of.1 in
       subst (λ e. Allowed (world s) e → P e) (sym (ap (λ n. event.Sent n f h) (of.2 ∙ put.3) ∙ ap (λ g. event.Sent c g h) of.3))
       (λ now. frame put.0 of.0.frame put.1 put.2 now (subst (λ g. Heard (command_of g) h) of.3 of.4)) here
 
 -- what is said between two events: before the start, of a frame that was heard, and of what is to come of an order
-abbrev pub HoldsBy : (Machine → List Gear → Type 0) → (Machine → ℕ → Forward → Answer → List Gear → Type 0) → (Machine → Order → List Gear → Type 0)
-    → Machine → Option Order → Option Input → List Gear → Type 0
+abbrev pub HoldsBy : (Machine → List Gear → Type 0) → (Machine → ℕ → Forward → Answer → List Gear → Type 0) → (Machine → Order → List Gear → Type 0) → Machine
+    → Option Order → Option Input → List Gear → Type 0
 HoldsBy First Hears Next m None (Some input.Start) gs = First m gs
 HoldsBy First Hears Next m (Some (Put p f)) (Some (input.Heard h)) gs = Hears m p f h gs
 HoldsBy First Hears Next m (Some o) None gs = Next m o gs
@@ -154,27 +147,23 @@ module _ (First : Machine → List Gear → Type 0) (Hears : Machine → ℕ →
 
   -- what follows if the controller acts, by what it acts on: Known of the machine that is told, and To is to be shown of it
   pub acts_from : (by : Bool) (Known : Input → Machine → Type 0) (To : Option Order → Option Input → Machine → Type 0) (w : World) (q c : ℕ) (m : Machine)
-      (i : Input) (o : Order)
-      → (m.last ≡ None → IsGivenBy (machine_told m (first_input by)) o → Known (first_input by) (machine_told m (first_input by)) → First m w.gear
-      → To None (Some input.Start) (machine_told m (first_input by)))
-      → ((p : ℕ) (f : Forward) (h : Answer) → m.last ≡ Some (Put p f) → IsGivenBy (machine_heard m (Some f) h) o
-      → Known (input.Heard h) (machine_heard m (Some f) h) → Hears m p f h w.gear
-      → To (Some (Put p f)) (Some (input.Heard h)) (machine_heard m (Some f) h))
-      → ((x : Record) → m.last ≡ Some (Commit x) → m.trace ≡ [] → IsGivenBy (with_kept m x) o → Known input.Committed (with_kept m x)
-      → Next m (Commit x) w.gear → To (Some (Commit x)) None (with_kept m x))
-      → IsLone w q c m → Succeeds by i → IsDue (controller_at w c) i → IsGivenBy (machine_told m i) o → Known i (machine_told m i)
-      → HoldsBy First Hears Next m (controller_at w c).last (controller_at w c).told w.gear
+      (i : Input) (o : Order) → (m.last ≡ None → IsGivenBy (machine_told m (first_input by)) o → Known (first_input by) (machine_told m (first_input by))
+      → First m w.gear → To None (Some input.Start) (machine_told m (first_input by))) → ((p : ℕ) (f : Forward) (h : Answer) → m.last ≡ Some (Put p f)
+      → IsGivenBy (machine_heard m (Some f) h) o → Known (input.Heard h) (machine_heard m (Some f) h) → Hears m p f h w.gear
+      → To (Some (Put p f)) (Some (input.Heard h)) (machine_heard m (Some f) h)) → ((x : Record) → m.last ≡ Some (Commit x) → m.trace ≡ []
+      → IsGivenBy (with_kept m x) o → Known input.Committed (with_kept m x) → Next m (Commit x) w.gear
+      → To (Some (Commit x)) None (with_kept m x)) → IsLone w q c m → Succeeds by i → IsDue (controller_at w c) i → IsGivenBy (machine_told m i) o
+      → Known i (machine_told m i) → HoldsBy First Hears Next m (controller_at w c).last (controller_at w c).told w.gear
       → To (controller_at w c).last (controller_at w c).told (machine_told m i)
   acts_from by Known To w q c m i o begun heard kept l good due given known holds =
       acts_by by (λ x t j. Moment w q c m (controller_at w c).outstanding x t → m.last ≡ x → IsGivenBy (machine_told m j) o → Known j (machine_told m j)
-      → HoldsBy First Hears Next m x t w.gear → To x t (machine_told m j))
-      (λ at is g n held. begun is g n held)
+      → HoldsBy First Hears Next m x t w.gear
+      → To x t (machine_told m j)) (λ at is g n held. begun is g n held)
       (λ p f h at is g n held. (let same : machine_told m (input.Heard h) ≡ machine_heard m (Some f) h = ap (λ x. machine_heard m (frame_put x) h) is in
       subst (To (Some (Put p f)) (Some (input.Heard h))) (sym same)
       (heard p f h is (subst (λ t. IsGivenBy t o) same g) (subst (Known (input.Heard h)) same n) held)))
       (λ x at is g n held. (let same : machine_told m input.Committed ≡ with_kept m x = ap (λ y. machine_committed m (record_ordered y)) is in
-      subst (To (Some (Commit x)) None) (sym same)
-      (kept x is at.1 (subst (λ t. IsGivenBy t o) same g) (subst (Known input.Committed) same n) held)))
+      subst (To (Some (Commit x)) None) (sym same) (kept x is at.1 (subst (λ t. IsGivenBy t o) same g) (subst (Known input.Committed) same n) held)))
       w q c m (controller_at w c).outstanding (controller_at w c).last (controller_at w c).told i l.moment (due_of (controller_at w c) i due) good l.moment
       l.last given known holds
 
@@ -232,8 +221,8 @@ pub record Argument (M : Measure) : Type 0 where
       → M.known (controller_at (happens (world s) (event.Acted c i o)) c) (machine_after m i o)
       × M.holds (machine_after m i o) (Some o) None (world s).gear left × (M.slack (Some o) None + 1 ≤ slack_at M (world s) c)
   pub sends : (s : SiteState) (c : ℕ) (m : Machine) (p : ℕ) (f : Forward) (h : Answer) (left : ℕ) → IsRun s.plan s.queue s.log
-      → Goes M (world s) s.queue c m left → m.last ≡ Some (Put p f) → (controller_at (world s) c).told ≡ None
-      → Allowed (world s) (event.Sent c f h) → IsKnown (world s) c f h → h ≡ heard_of (answers_of Everyone (command_of f) 0 (world s).gear)
+      → Goes M (world s) s.queue c m left → m.last ≡ Some (Put p f) → (controller_at (world s) c).told ≡ None → Allowed (world s) (event.Sent c f h)
+      → IsKnown (world s) c f h → h ≡ heard_of (answers_of Everyone (command_of f) 0 (world s).gear)
       → (rest : ℕ) × (left ≡ suc rest) × M.known (controller_at (happens (world s) (event.Sent c f h)) c) m
       × M.holds m (Some (Put p f)) (Some (input.Heard h)) (row_after Everyone (command_of f) 0 (world s).gear (world s).left) rest
   pub spends : (p : ℕ) (f : Forward) (h : Answer) (rest left : ℕ) → left ≡ suc rest
@@ -246,9 +235,9 @@ module _ (M : Measure) (a : Argument M) where
       → MayAnswer (machine_at s c) i o → (M.by ≡ true → LeavesWhole (machine_at s c) i o) → LeavesUsed s.plan.used (event.Acted c i o)
       → RunsOn M s c left (event.Acted c i o)
   acted_on s c left i o r here good may whole leaves =
-      let to = acted_to M.known (with_left M left)
-      (λ m last told gs. M.holds m last told gs left × (M.slack last told + 1 ≤ slack_at M (world s) c)) M.by s c i o r here good may leaves
-      (λ now given. (let out = a.acts s c r.machine i o left r.run now r.goes good here given (λ e. subst (λ n. LeavesWhole n i o) r.there (whole e)) in
+      let to = acted_to M.known (with_left M left) (λ m last told gs. M.holds m last told gs left × (M.slack last told + 1 ≤ slack_at M (world s) c))
+      M.by s c i o r here good may leaves (λ now given.
+      (let out = a.acts s c r.machine i o left r.run now r.goes good here given (λ e. subst (λ n. LeavesWhole n i o) r.there (whole e)) in
       (out.0, (out.1, out.2)))) in
       record {
         rest = left;
@@ -266,29 +255,23 @@ module _ (M : Measure) (a : Argument M) where
       more x y z less = omega (arith, less)
 
   frame_on : (s : SiteState) (c left p : ℕ) (f : Forward) (h : Answer) → (r : Runs M s c left) → r.machine.last ≡ Some (Put p f)
-      → (controller_at (world s) c).told ≡ None → Allowed (world s) (event.Sent c f h)
-      → h ≡ heard_of (answers_of Everyone (command_of f) 0 (world s).gear) → RunsOn M s c left (event.Sent c f h)
+      → (controller_at (world s) c).told ≡ None → Allowed (world s) (event.Sent c f h) → h ≡ heard_of (answers_of Everyone (command_of f) 0 (world s).gear)
+      → RunsOn M s c left (event.Sent c f h)
   frame_on s c left p f h r last told here heard =
-      let to = frame_to M.known (with_left M left)
-      (λ m o t gs. (rest : ℕ) × (left ≡ suc rest) × M.holds m o t gs rest × (M.events rest + M.slack o t + 1 ≤ M.events left + slack_at M (world s) c))
-      s c p f h r last told here
-      (λ known. (let sent = a.sends s c r.machine p f h left r.run r.goes last told here known heard in (sent.2, (sent.0, sent.1, sent.3, less sent.0 sent.1))))
+      let to = frame_to M.known (with_left M left) (λ m o t gs. (rest : ℕ) × (left ≡ suc rest) × M.holds m o t gs rest
+      × (M.events rest + M.slack o t + 1 ≤ M.events left + slack_at M (world s) c))
+      s c p f h r last told here (λ known. (let sent = a.sends s c r.machine p f h left r.run r.goes last told here known heard in
+      (sent.2, (sent.0, sent.1, sent.3, less sent.0 sent.1))))
       in
       let at = to.goes.holds in
       record {
         rest = at.0;
         sum = at.1 ∙ omega arith;
         less = at.3;
-        runs = record {
-          run = to.run;
-          machine = to.machine;
-          there = to.there;
-          goes = record { lone = to.goes.lone; known = to.goes.known; holds = at.2 };
-        };
+        runs = record { run = to.run; machine = to.machine; there = to.there; goes = record { lone = to.goes.lone; known = to.goes.known; holds = at.2 } };
       }
     where
-      less : (rest : ℕ) → left ≡ suc rest
-          → M.events rest + M.slack (Some (Put p f)) (Some (input.Heard h)) + 1 ≤ M.events left + slack_at M (world s) c
+      less : (rest : ℕ) → left ≡ suc rest → M.events rest + M.slack (Some (Put p f)) (Some (input.Heard h)) + 1 ≤ M.events left + slack_at M (world s) c
       less rest is =
           subst (λ x. M.events rest + M.slack (Some (Put p f)) (Some (input.Heard h)) + 1 ≤ M.events left + x)
           (slack_of M (world s) c (Some (Put p f)) None (sym r.goes.lone.last ∙ last) told) (a.spends p f h rest left is)

@@ -42,9 +42,9 @@ taking_the_bus =
 
 pub given_second : IsGiven (at_first 1 (without_records second_block)) input.Start (Put 3 (frame 0xA1 0))
 unfolding command_of stage_of
-given_second = first_given (at_first 1 (without_records second_block)) input.Start Free Terminate (λ e. cc)
-    (record { stage = refl; plain = tt; tries = refl; silent = refl; last = tt }) refl refl (refl, inl refl)
-    (Open, tt, refl) (λ g e. cc)
+given_second =
+    first_given (at_first 1 (without_records second_block)) input.Start Free Terminate (λ e. cc)
+    (record { stage = refl; plain = tt; tries = refl; silent = refl; last = tt }) refl refl (refl, inl refl) (Open, tt, refl) (λ g e. cc)
 
 pub starts : BeginsAlone ByStart shared_site 0
 starts = (
@@ -133,7 +133,8 @@ rest_of_session = searching ++ (compare ∷ ending)
 
 opening_plays : Plays (start two_controllers 8) (machines_at 0 (block ∷ second_block ∷ [])) 0 opening
 unfolding command_of stage_of
-opening_plays = plays_by (start two_controllers 8) (machines_at 0 (block ∷ second_block ∷ [])) 0 opening refl
+opening_plays =
+    plays_by (start two_controllers 8) (machines_at 0 (block ∷ second_block ∷ [])) 0 opening refl
     (given_first, (given_initialise, (given_initialise_again, (given_randomise, (given_randomise_again, tt)))))
 
 other_plays : AreOfOther (site_after shared_site opening) 1 terminating_once

@@ -41,8 +41,7 @@ runs_after BySurvey s c es a rounds =
     runs_all (measure BySurvey s c) (argues BySurvey s c) s c (most_frames BySurvey (bare s)) es (survey.starts s c a) rounds
 
 -- NO MORE FRAMES are sent than these, and no more events come
-pub bounded : (b : Beginning) (s : SiteState) (c : ℕ) (es : List Event) → BeginsAlone b s c → Rounds (by_survey b) s c es
-    → frames es ≤ most_frames b (bare s)
+pub bounded : (b : Beginning) (s : SiteState) (c : ℕ) (es : List Event) → BeginsAlone b s c → Rounds (by_survey b) s c es → frames es ≤ most_frames b (bare s)
 bounded b s c es a rounds = let all = runs_after b s c es a rounds in omega (arith, all.sum)
 
 events_most : (b : Beginning) (s : SiteState) (c k : ℕ) → k ≤ (measure b s c).events (most_frames b (bare s)) + 1 → k ≤ most_events b (bare s)
@@ -52,8 +51,7 @@ events_most BySurvey s c k few = omega (arith, few)
 pub few_events : (b : Beginning) (s : SiteState) (c : ℕ) (es : List Event) → BeginsAlone b s c → Rounds (by_survey b) s c es
     → length es ≤ most_events b (bare s)
 few_events b s c es a rounds =
-    events_most b s c (length es)
-    (few_all (measure b s c) (argues b s c) s c (most_frames b (bare s)) es (alone_of b s c a) (runs_after b s c es a rounds))
+    events_most b s c (length es) (few_all (measure b s c) (argues b s c) s c (most_frames b (bare s)) es (alone_of b s c a) (runs_after b s c es a rounds))
 
 -- ---------------------------------------------------------------- it goes on
 
@@ -67,12 +65,7 @@ pub record IsAfter (s : SiteState) (c : ℕ) : Type 0 where
 pub after : (b : Beginning) (s : SiteState) (c : ℕ) (es : List Event) → BeginsAlone b s c → Rounds (by_survey b) s c es → IsAfter (site_after s es) c
 after b s c es a rounds =
     let all = runs_after b s c es a rounds in
-    record {
-      run = all.runs.run;
-      machine = all.runs.machine;
-      there = all.runs.there;
-      lone = all.runs.goes.lone;
-    }
+    record { run = all.runs.run; machine = all.runs.machine; there = all.runs.there; lone = all.runs.goes.lone }
 
 pub goes_on : (b : Beginning) (s : SiteState) (c : ℕ) (es : List Event) → BeginsAlone b s c → Rounds (by_survey b) s c es
     → GoesOn (by_survey b) (site_after s es) c
@@ -102,8 +95,8 @@ named BySurvey s c es e a rounds ended =
 
 -- ---------------------------------------------------------------- its numbers
 
-pub never_spent : (b : Beginning) (s : SiteState) (c : ℕ) (es : List Event) → BeginsAlone b s c
-    → bare s ≤ length (world s).left → Rounds (by_survey b) s c es → IsPumpRefused (site_after s es) trouble.None refusal.DrawsSpent → ⊥
+pub never_spent : (b : Beginning) (s : SiteState) (c : ℕ) (es : List Event) → BeginsAlone b s c → bare s ≤ length (world s).left → Rounds (by_survey b) s c es
+    → IsPumpRefused (site_after s es) trouble.None refusal.DrawsSpent → ⊥
 never_spent ByStart s c es a enough rounds =
     drawing.never_spent (measure ByStart s c) (argues ByStart s c) LeavesDraws (start_draws (world s).gear) s c (most_frames ByStart (bare s)) es
     (start.starts s c a) rounds (λ m there closed. enough)

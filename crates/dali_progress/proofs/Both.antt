@@ -148,21 +148,14 @@ visits_first k r more gs left ready unnamed wants_it drawn count frames = record
   ready = ready;
   unnamed = unnamed;
   more = more;
-  visited = record {
-    wanted = subst (λ n. wants gs n ≡ true) (sym (value_sought r)) wants_it;
-    number = r;
-    number_is = refl;
-    drawn = drawn;
-    count = count;
-  };
+  visited = record { wanted = subst (λ n. wants gs n ≡ true) (sym (value_sought r)) wants_it; number = r; number_is = refl; drawn = drawn; count = count };
   frames = frames;
 }
 
 -- once an address is reserved
 pub frames_reserved : (k : Kept) (a r more left : ℕ) → 7 + search_frames more ≤ left → VisitFrames (with_record k (Reserve a r)) (sought r) more (left + 0)
 frames_reserved k a r more left enough = inl (
-  subst (HasRandom (k.reserved ++ (a, r) ∷ [])) (sym (value_sought r))
-      (has_random (k.reserved ++ (a, r) ∷ []) a r (has_last k.reserved (a, r))),
+  subst (HasRandom (k.reserved ++ (a, r) ∷ [])) (sym (value_sought r)) (has_random (k.reserved ++ (a, r) ∷ []) a r (has_last k.reserved (a, r))),
   omega (arith, enough),
 )
 
@@ -339,7 +332,6 @@ opening_draws stage.RandomisedOnce k n gs left c o is = inr (refl, (let same : c
 opening_draws stage.Opened k n gs left c o is = absurd (cc)
 opening_draws _ k n gs left c o is = absurd o.stage_is
 
-pub opening_none : (s : Stage) (k : Kept) (n : SearchAddress) (gs : List Gear) (left : ℕ) (c : Command) (h : Answer) → Opens s gs left
-    → Sends Opening n k s c → is_complete (next_stage s c h) ≡ false
-    → draws_needed Everyone c 0 gs ≡ 0
+pub opening_none : (s : Stage) (k : Kept) (n : SearchAddress) (gs : List Gear) (left : ℕ) (c : Command) (h : Answer) → Opens s gs left → Sends Opening n k s c
+    → is_complete (next_stage s c h) ≡ false → draws_needed Everyone c 0 gs ≡ 0
 opening_none s k n gs left c h o is closed = closed_none s c h gs (opening_draws s k n gs left c o is) closed

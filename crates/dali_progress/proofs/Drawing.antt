@@ -16,8 +16,7 @@ use Rattle.dali_progress.proofs.Lone.{acted_last, acted_told, lone_next, lone_se
 pub record Stays (M : Measure) (P : Machine → List Gear → List ℕ → Type 0) : Type 0 where
   pub acts : (s : SiteState) (c left l : ℕ) (i : Input) (o : Order) → (u : Runs M s c left) → Allowed (world s) (event.Acted c i o) → Succeeds M.by i
       → IsGiven u.machine i o → M.holds (machine_after u.machine i o) (Some o) None (world (site_logged s (event.Acted c i o))).gear l
-      → P (informed_by u.machine (controller_at (world s) c).told) (world s).gear (world s).left
-      → P (machine_after u.machine i o) (world s).gear (world s).left
+      → P (informed_by u.machine (controller_at (world s) c).told) (world s).gear (world s).left → P (machine_after u.machine i o) (world s).gear (world s).left
   pub sends : (s : SiteState) (c left rest p : ℕ) (f : Forward) (h : Answer) → (u : Runs M s c left) → Allowed (world s) (event.Sent c f h)
       → h ≡ heard_of (answers_of Everyone (command_of f) 0 (world s).gear) → u.machine.last ≡ Some (Put p f)
       → M.holds u.machine (Some (Put p f)) None (world s).gear left
@@ -65,13 +64,14 @@ module _ (M : Measure) (a : Argument M) (P : Machine → List Gear → List ℕ 
       let lone = lone_sent w s.queue c u.machine p f h u.goes.lone last told in
       let there = ap (λ ms. machine_in ms c) (machines_logged s (event.Sent c f h)) ∙ u.there in
       let put : (controller_at (happens w (event.Sent c f h)) c).last ≡ Some (Put p f) = sent_last w c f h u.goes.lone.up ∙ sym u.goes.lone.last ∙ last in
-      let now = held M (site_logged s (event.Sent c f h)) c l u.machine (Some (Put p f)) (Some (input.Heard h)) v there
+      let now =
+      held M (site_logged s (event.Sent c f h)) c l u.machine (Some (Put p f)) (Some (input.Heard h)) v there
       (ap (λ x. (controller_at x c).last) (world_logged s (event.Sent c f h)) ∙ put)
       (ap (λ x. (controller_at x c).told) (world_logged s (event.Sent c f h)) ∙ lone.1) in
       stays_logged P s c (event.Sent c f h) u.machine there
       (subst (λ t. P (informed_by u.machine t) (row_after Everyone (command_of f) 0 w.gear w.left) (row_left Everyone (command_of f) 0 w.gear w.left))
-      (sym lone.1)
-      (d.sends s c left l p f h u here heard last (held M s c left u.machine (Some (Put p f)) None u u.there (sym u.goes.lone.last ∙ last) told)
+      (sym lone.1) (d.sends s c left l p f h u here heard last
+      (held M s c left u.machine (Some (Put p f)) None u u.there (sym u.goes.lone.last ∙ last) told)
       (subst (λ (x : World). M.holds u.machine (Some (Put p f)) (Some (input.Heard h)) x.gear l) (world_logged s (event.Sent c f h)) now)
       (subst (λ t. P (informed_by u.machine t) w.gear w.left) told (has u.machine u.there))))
 
@@ -83,8 +83,8 @@ module _ (M : Measure) (a : Argument M) (P : Machine → List Gear → List ℕ 
   stays_on s c left l (event.Sent x f h) u v here of has =
       let put = lone_next (world s) s.queue c u.machine of.0 u.goes.lone of.1 in
       subst (λ n. Runs M (site_logged s (event.Sent n f h)) c l → Allowed (world s) (event.Sent n f h) → StaysAt P (site_logged s (event.Sent n f h)) c)
-      (sym (of.2 ∙ put.3))
-      (λ v now. sent_stays s c left l put.0 f h u v now of.4 (subst (λ g. u.machine.last ≡ Some (Put put.0 g)) (sym of.3) put.1) put.2 has) v here
+      (sym (of.2 ∙ put.3)) (λ v now. sent_stays s c left l put.0 f h u v now of.4
+      (subst (λ g. u.machine.last ≡ Some (Put put.0 g)) (sym of.3) put.1) put.2 has) v here
   stays_on s c left l _ u v here of has = absurd of
 
   pub stays_all : (s : SiteState) (c left : ℕ) (es : List Event) → Runs M s c left → Rounds M.by s c es → StaysAt P s c → StaysAt P (site_after s es) c

@@ -38,7 +38,8 @@ no_start : (start : Begun) (s : SiteState) (c left : ℕ) → Runs (of_survey st
     → (controller_at (world s) c).told ≡ Some input.Start → ⊥
 no_start start s c left u begun told =
     never_starts (world s) s.queue c u.machine (controller_at (world s) c).outstanding begun.0 (controller_at (world s) c).told
-    (subst (λ l. Moment (world s) s.queue c u.machine (controller_at (world s) c).outstanding l (controller_at (world s) c).told) begun.1 u.goes.lone.moment)
+    (subst (λ l. Moment (world s) s.queue c u.machine (controller_at (world s) c).outstanding l (controller_at (world s) c).told)
+    begun.1 u.goes.lone.moment)
     told
 
 is_of_survey : (start : Begun) (s : SiteState) (c left : ℕ) (e : Event) → Runs (of_survey start) s c left → begun_last (world s) c → Allowed (world s) e
@@ -61,8 +62,7 @@ still_begun start s c left (event.Acted d i o) u begun of =
     subst (λ n. begun_last (happens (world s) (event.Acted n i o)) c) (sym of.0) (o, acted_last (world s) c i o u.goes.lone.up)
 still_begun start s c left (event.Sent d f h) u begun of =
     let put = lone_next (world s) s.queue c u.machine of.0 u.goes.lone of.1 in
-    subst (λ n. begun_last (happens (world s) (event.Sent n f h)) c) (sym (of.2 ∙ put.3))
-    (begun.0, sent_last (world s) c f h u.goes.lone.up ∙ begun.1)
+    subst (λ n. begun_last (happens (world s) (event.Sent n f h)) c) (sym (of.2 ∙ put.3)) (begun.0, sent_last (world s) c f h u.goes.lone.up ∙ begun.1)
 still_begun start s c left _ u begun of = absurd of
 
 are_of_survey : (start : Begun) (s : SiteState) (c left : ℕ) (es : List Event) → Runs (of_survey start) s c left → begun_last (world s) c → Rounds false s c es
@@ -136,14 +136,14 @@ pub came_so : (b : Beginning) (n between : Installation) (t : SiteState) (k f : 
     → Comes between.site t k f → Came (by_survey b) n.site t k f
 came_so b n between t k f alone begins comes = came (by_survey b) n between t k f (alone_of b n.site 0 alone) begins comes
 
-comes_of : (b : Beginning) (limit : ℕ) (n between : Installation) (sent : ℕ) (text : List ℕ) (m : Installation)
-    → (r : RanAlone b limit n between sent text m) → Comes between.site r.ran.between.site r.ran.rounds sent
+comes_of : (b : Beginning) (limit : ℕ) (n between : Installation) (sent : ℕ) (text : List ℕ) (m : Installation) → (r : RanAlone b limit n between sent text m)
+    → Comes between.site r.ran.between.site r.ran.rounds sent
 comes_of b limit n between sent text m r =
     all_played between r.ran.between r.ran.rounds sent r.ran.front (one_begun (by_survey b) n between r.one r.has_begun) r.ran.played
 
 -- NO MORE FRAMES are sent
-pub run_frames : (b : Beginning) (limit : ℕ) (n between : Installation) (sent : ℕ) (text : List ℕ) (m : Installation)
-    → RanAlone b limit n between sent text m → sent ≤ most_frames b (bare n.site)
+pub run_frames : (b : Beginning) (limit : ℕ) (n between : Installation) (sent : ℕ) (text : List ℕ) (m : Installation) → RanAlone b limit n between sent text m
+    → sent ≤ most_frames b (bare n.site)
 run_frames b limit n between sent text m r =
     let all = came_so b n between r.ran.between.site r.ran.rounds sent r.alone r.has_begun (comes_of b limit n between sent text m r) in
     subst (λ x. x ≤ most_frames b (bare n.site)) all.sent (bounded b n.site 0 all.events r.alone all.rounds)
@@ -175,9 +175,8 @@ over_ended b s t es alone rounds is turn next = subst (λ x. HasEndedBy b s x 0)
       absurd (cc)
 
 -- A RUN OF ENOUGH ROUNDS ENDS
-pub run_ends : (b : Beginning) (limit : ℕ) (n between : Installation) (sent : ℕ) (text : List ℕ) (m : Installation)
-    → RanAlone b limit n between sent text m → most_events b (bare n.site) < limit + begun (by_survey b)
-    → HasEndedBy b n.site m.site 0 ⊎ WasRefused between sent text m
+pub run_ends : (b : Beginning) (limit : ℕ) (n between : Installation) (sent : ℕ) (text : List ℕ) (m : Installation) → RanAlone b limit n between sent text m
+    → most_events b (bare n.site) < limit + begun (by_survey b) → HasEndedBy b n.site m.site 0 ⊎ WasRefused between sent text m
 run_ends b limit n between sent text m r enough = go r.ran.ends where
   comes : Comes between.site r.ran.between.site r.ran.rounds sent
   comes = comes_of b limit n between sent text m r
@@ -193,8 +192,8 @@ run_ends b limit n between sent text m r enough = go r.ran.ends where
       absurd (fewer (most_events b (bare n.site)) (begun (by_survey b)) r.ran.rounds (length all.events) enough all.many
       (few_events b n.site 0 all.events r.alone all.rounds) is)
   go (inr (below, inl last)) =
-      let ended = over r.ran.between m r.ran.last
-      (one_more between r.ran.between r.ran.rounds sent (one_begun (by_survey b) n between r.one r.has_begun) comes) last in
+      let ended =
+      over r.ran.between m r.ran.last (one_more between r.ran.between r.ran.rounds sent (one_begun (by_survey b) n between r.one r.has_begun) comes) last in
       inl (subst (λ t. HasEndedBy b n.site t 0) (sym ended.same)
       (over_ended b n.site r.ran.between.site all.events r.alone all.rounds all.is ended.turn ended.next))
   go (inr (below, inr refused)) =

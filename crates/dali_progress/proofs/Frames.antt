@@ -43,8 +43,7 @@ one_less need (suc l) sent enough small = (l, refl, omega (arith, enough))
 -- ---------------------------------------------------------------- an opening
 
 opens_less : (c : Command) (gs : List Gear) (numbers : List ℕ) (left sent : ℕ) → LeavesShort c → 5 + search_frames (count_by is_bare gs) ≤ left + sent
-    → sent < 5
-    → (l : ℕ) × (left ≡ suc l) × (5 + search_frames (count_by is_bare (row_after Everyone c 0 gs numbers)) ≤ l + (sent + 1))
+    → sent < 5 → (l : ℕ) × (left ≡ suc l) × (5 + search_frames (count_by is_bare (row_after Everyone c 0 gs numbers)) ≤ l + (sent + 1))
 opens_less c gs numbers left sent leaves enough small =
     let less = one_less (5 + search_frames (count_by is_bare gs)) left sent enough (omega (arith, small)) in
     (less.0, less.1, rw (leaving.count_bare_after c gs numbers leaves) less.2)
@@ -121,8 +120,7 @@ probe_small answers (suc n) = omega arith
 
 -- the same search, if the gear are the same but for what they seek
 probes_on : (s t : Stage) (x : Search) (n : SearchAddress) (gs hs : List Gear) (left l : ℕ) → Probes s x n gs left → SameCore gs hs → ProbeStage t hs x.probe
-    → IsSearched t n
-    → probe_frames (length x.answers) (count_by is_wanted gs) ≤ l + sent_at t → Probes t x n hs l
+    → IsSearched t n → probe_frames (length x.answers) (count_by is_wanted gs) ≤ l + sent_at t → Probes t x n hs l
 probes_on s t x n gs hs left l p same stage searched frames = record {
   stage_is = stage;
   searched = searched;
@@ -193,8 +191,7 @@ visited_on n gs hs more v same count =
 
 -- the same visit, if the gear are the same but for what they seek
 visits_on : (s t : Stage) (k : Kept) (n : SearchAddress) (gs hs : List Gear) (left l : ℕ) (v : Visits s k n gs left) → SameCore gs hs → VisitStage t
-    → IsSearched t n → VisitFrames k n v.more (l + sent_at t)
-    → Visits t k n hs l
+    → IsSearched t n → VisitFrames k n v.more (l + sent_at t) → Visits t k n hs l
 visits_on s t k n gs hs left l v same stage searched frames = record {
   stage_is = stage;
   searched = searched;
@@ -265,14 +262,16 @@ given_sent r a k x n gs numbers left h v small has here =
         record {
           searched = sym v.searched;
           ready = programming.programmed_opened gs numbers r a here v.ready;
-          unnamed = subst (NoneNamedBut (row_after Everyone (Program (Some a)) 0 gs numbers)) same
+          unnamed =
+              subst (NoneNamedBut (row_after Everyone (Program (Some a)) 0 gs numbers)) same
               (programming.programmed_none_named gs numbers r a here (withdrawing.none_named_but gs (value_of r) v.unnamed));
           named = subst (λ m. HaveShort (row_after Everyone (Program (Some a)) 0 gs numbers) m a) same (short_given gs numbers r a here);
           address = small;
           reserved = subst (λ m. Has k.reserved (a, m)) same has;
           more = v.more;
-          visited = visited_on n gs (row_after Everyone (Program (Some a)) 0 gs numbers) v.more v.visited
-              (λ m. programming.programmed_wants gs numbers r a m here) (programming.programmed_count gs numbers r a here);
+          visited =
+              visited_on n gs (row_after Everyone (Program (Some a)) 0 gs numbers) v.more v.visited (λ m. programming.programmed_wants gs numbers r a m here)
+              (programming.programmed_count gs numbers r a here);
           frames = less.2;
         },
       ),
@@ -346,11 +345,10 @@ visiting_sent : (s : Stage) (k : Kept) (x : Search) (n : SearchAddress) (gs : Li
 visiting_sent s k x n gs numbers left c h v is taken seek =
     visit_by (λ t d. VisitsAt t k n gs left → IsTaken d gs numbers h → Seeks t gs → IsSentTo Visiting t k true x n gs numbers left d h) n k gs left
     (λ w to by. visit_next stage.Free (stage.HighSent n.high) k x n gs _ left w (leaving.core_after (SearchHigh n.high) gs numbers tt) tt refl refl
-    (omega arith))
-    (λ high w to by. visit_next (stage.HighSent high) (stage.MiddleSent high n.middle) k x n gs _ left w
+    (omega arith)) (λ high w to by. visit_next (stage.HighSent high) (stage.MiddleSent high n.middle) k x n gs _ left w
     (leaving.core_after (SearchMiddle n.middle) gs numbers tt) tt (w.searched, refl) refl (omega arith))
-    (λ high middle w to by. visit_next (stage.MiddleSent high middle) (stage.NumberSent (record { high = high; middle = middle; low = n.low }))
-    k x n gs _ left w
+    (λ high middle w to by. visit_next (stage.MiddleSent high middle)
+    (stage.NumberSent (record { high = high; middle = middle; low = n.low })) k x n gs _ left w
     (leaving.core_after (SearchLow n.low) gs numbers tt) tt (whole n high middle w.searched.0 w.searched.1) refl (omega arith))
     (λ r w to by.
     let heard : h ≡ Byte (program_data None) =
@@ -358,8 +356,7 @@ visiting_sent s k x n gs numbers left c h v is taken seek =
     (λ i there on active enabled random. w.unnamed i there on enabled) to.heard in
     let there : queried r h ≡ stage.Unnamed r = ap (queried r) heard ∙ mask_queried r in
     rw there (visit_next (stage.NumberSent r) (stage.Unnamed r) k x n gs _ left w (leaving.core_after QueryShort gs numbers tt) tt w.searched refl
-    (omega arith)))
-    (λ r a small has w to by. given_sent r a k x n gs numbers left h w small has (by r refl))
+    (omega arith))) (λ r a small has w to by. given_sent r a k x n gs numbers left h w small has (by r refl))
     (λ r a w to by. named_sent r a k x n gs numbers left h w to (by r refl)) (λ r a w to by. withdraw_sent r a k x n gs numbers left h w (by r refl))
     s c v is v taken seek
 
@@ -389,8 +386,7 @@ ends_still AllFound k gs numbers well = λ i in_row on. short_left Terminate gs 
 ends_still _ k gs numbers well = well
 
 closing_sent : (e : End) (s : Stage) (k : Kept) (opened : Bool) (x : Search) (n : SearchAddress) (gs : List Gear) (numbers : List ℕ) (left : ℕ) (c : Command)
-    (h : Answer)
-    → Closes e s k gs left → Sends (Closing e) n k s c → IsSentTo (Closing e) s k opened x n gs numbers left c h
+    (h : Answer) → Closes e s k gs left → Sends (Closing e) n k s c → IsSentTo (Closing e) s k opened x n gs numbers left c h
 closing_sent e stage.Free k opened x n gs numbers left c h v is =
     subst (λ d. IsSentTo (Closing e) stage.Free k opened x n gs numbers left d h) (sym is) go where
       go : IsSentTo (Closing e) stage.Free k opened x n gs numbers left Terminate h
@@ -403,8 +399,7 @@ closing_sent e _ k opened x n gs numbers left c h v is = absurd v.stage_is
 -- ---------------------------------------------------------------- of whatever transaction
 
 pub at_sent : (p : Purpose) (s : Stage) (k : Kept) (opened : Bool) (x : Search) (n : SearchAddress) (gs : List Gear) (numbers : List ℕ) (left : ℕ) (c : Command)
-    (h : Answer)
-    → At p s k opened x n gs left → Sends p n k s c → IsTaken c gs numbers h → Seeks s gs → IsSentTo p s k opened x n gs numbers left c h
+    (h : Answer) → At p s k opened x n gs left → Sends p n k s c → IsTaken c gs numbers h → Seeks s gs → IsSentTo p s k opened x n gs numbers left c h
 at_sent Opening s k opened x n gs numbers left c h at is taken seek = opening_sent s k opened x n gs numbers left c h at.0 at.1 is taken
 at_sent Probing s k opened x n gs numbers left c h at is taken seek =
     subst (λ b. IsSentTo Probing s k b x n gs numbers left c h) (sym at.0) (probing_sent s k x n gs numbers left c h at.1 is taken seek)

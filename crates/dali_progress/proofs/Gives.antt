@@ -17,13 +17,7 @@ pub record Gives (b : Block) (gs hs : List Gear) : Type 0 where
       → ((gear_of gs k).short ≡ Some a) ⊎ (((gear_of gs k).powered ≡ true) × ((gear_of gs k).short ≡ None) × InBlock b a)
 
 pub gives_self : (b : Block) (gs : List Gear) → Gives b gs gs
-gives_self b gs = record {
-  count = refl;
-  power = λ k h. refl;
-  short = λ k a h is. is;
-  number = λ k a h is. refl;
-  given = λ k a h is. inl is;
-}
+gives_self b gs = record { count = refl; power = λ k h. refl; short = λ k a h is. is; number = λ k a h is. refl; given = λ k a h is. inl is }
 
 -- one after the other
 pub gives_then : (b : Block) (fs gs hs : List Gear) → Gives b fs gs → Gives b gs hs → Gives b fs hs
@@ -105,8 +99,7 @@ frame_gives s c f h run here =
     hs = row_after Everyone (command_of f) 0 gs (world s).left
 
     go : (new : List (ℕ × ℕ)) (k a : ℕ) → StaysDark (gear_of gs k) (gear_of hs k) → (gear_of hs k).short ≡ Some a
-        → ((gear_of gs k).short ≡ Some a) ⊎ Has new (k, a)
-        → (Has new (k, a) → Given (OfBlock (block_at s.plan c)) gs (world s).drawn hs k a)
+        → ((gear_of gs k).short ≡ Some a) ⊎ Has new (k, a) → (Has new (k, a) → Given (OfBlock (block_at s.plan c)) gs (world s).drawn hs k a)
         → ((gear_of gs k).short ≡ Some a) ⊎ (((gear_of gs k).powered ≡ true) × ((gear_of gs k).short ≡ None) × InBlock (block_at s.plan c) a)
     go new k a dark is (inl had) given = inl had
     go new k a (inr same) is (inr has) given = inl (sym same ∙ is)

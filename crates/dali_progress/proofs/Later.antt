@@ -39,8 +39,8 @@ pub turn_unasked : (p : Purpose) (n : SearchAddress) (s : Stage) (c : Command) �
 turn_unasked p n s c turn = go s turn where
   go : (s : Stage) → turn_of p n s ≡ Some c → IsUnasked s p
   go (stage.Hunted r (Some h) left) turn =
-      unasked_but (stage.Hunted r (Some h) left) p
-      (λ e. (let never : None ≡ Some c = sym (ap (λ x. turn_of x n (stage.Hunted r (Some h) left)) e) ∙ turn in cc))
+      unasked_but (stage.Hunted r (Some h) left) p (λ e. (let never : None ≡ Some c = sym (ap (λ x. turn_of x n (stage.Hunted r (Some h) left)) e) ∙ turn in
+      cc))
   go _ turn = tt
 
 -- ---------------------------------------------------------------- after a QUERY SHORT ADDRESS

@@ -40,8 +40,8 @@ some_within (x ∷ ms) (suc c) m is = let inside : c < length ms = some_within m
 pub acted_machine : (s : SiteState) (c : ℕ) (i : Input) (o : Order) (m : Machine) → machine_at s c ≡ Some m
     → machine_at (site_logged s (event.Acted c i o)) c ≡ Some (machine_after m i o)
 acted_machine s c i o m there =
-    ap (λ ms. machine_in ms c) (machines_logged s (event.Acted c i o))
-    ∙ get_or-set_same (machines s) c (option_map (λ n. machine_after n i o) (machine_in (machines s) c)) None (some_within (machines s) c m there)
+    ap (λ ms. machine_in ms c) (machines_logged s (event.Acted c i o)) ∙ get_or-set_same (machines s) c
+    (option_map (λ n. machine_after n i o) (machine_in (machines s) c)) None (some_within (machines s) c m there)
     ∙ ap (option_map (λ n. machine_after n i o)) there
 
 pub drawn_now : (s : SiteState) → IsRun s.plan s.queue s.log → AreDrawn (world s)

@@ -24,14 +24,12 @@ with_first capacity c f = record { lists = [] ∷ [] ∷ (request_of c FIRST f �
 -- a frame waits
 abbrev pub Waits : World → ℕ → ℕ → Machine → ℕ → Forward → Type 0
 Waits w q c m p f =
-    ((p ≡ LATER) × (w.bus ≡ with_later q c f) × (w.trace ≡ m.trace))
-    ⊎ ((p ≡ FIRST) × (w.bus ≡ with_first q c f) × (w.trace ≡ []) × (m.trace ≡ []))
+    ((p ≡ LATER) × (w.bus ≡ with_later q c f) × (w.trace ≡ m.trace)) ⊎ ((p ≡ FIRST) × (w.bus ≡ with_first q c f) × (w.trace ≡ []) × (m.trace ≡ []))
 
 -- a frame was heard, and c owns the bus, or the bus has no owner
 abbrev pub Heard : World → ℕ → ℕ → Machine → Forward → Answer → Type 0
 Heard w q c m f h =
-    ((w.bus ≡ still q (Some c)) × (w.trace ≡ m.trace ++ entry f h ∷ []))
-    ⊎ ((w.bus ≡ still q None) × (w.trace ≡ []))
+    ((w.bus ≡ still q (Some c)) × (w.trace ≡ m.trace ++ entry f h ∷ [])) ⊎ ((w.bus ≡ still q None) × (w.trace ≡ []))
 
 -- nothing runs
 abbrev pub Rests : World → ℕ → Type 0
@@ -149,8 +147,8 @@ first_input true = input.Survey
 pub acts_by : (by : Bool) (P : Option Order → Option Input → Input → Type 0) → P None (Some input.Start) (first_input by)
     → ((p : ℕ) (f : Forward) (h : Answer) → P (Some (Put p f)) (Some (input.Heard h)) (input.Heard h))
     → ((x : Record) → P (Some (Commit x)) None input.Committed)
-    → (w : World) (q c : ℕ) (m : Machine) (out : Option Record) (last : Option Order) (told : Option Input) (i : Input)
-    → Moment w q c m out last told → IsDueOf last told i → Succeeds by i → P last told i
+    → (w : World) (q c : ℕ) (m : Machine) (out : Option Record) (last : Option Order) (told : Option Input) (i : Input) → Moment w q c m out last told
+    → IsDueOf last told i → Succeeds by i → P last told i
 acts_by false P first heard keeps w q c m out None (Some input.Start) input.Start at due good = first
 acts_by true P first heard keeps w q c m out None (Some input.Start) input.Survey at due good = first
 acts_by by P first heard keeps w q c m out (Some (Put p f)) (Some (input.Heard h)) (input.Heard a) at due good =
@@ -252,8 +250,7 @@ request_is c n p f r e =
     (p, ap (λ (x : Request). Some (Put p x.frame)) here, refl, sym (ap (λ (x : Request). x.sender) here))
 
 next_at : (w : World) (q c : ℕ) (m : Machine) (out : Option Record) (last : Option Order) (told : Option Input) (r : Request) → Moment w q c m out last told
-    → next w.bus ≡ Some r
-    → (p : ℕ) × (last ≡ Some (Put p r.frame)) × (told ≡ None) × (r.sender ≡ c)
+    → next w.bus ≡ Some r → (p : ℕ) × (last ≡ Some (Put p r.frame)) × (told ≡ None) × (r.sender ≡ c)
 next_at w q c m out (Some (Put p f)) None r (inl later) is = request_is c LATER p f r (sym (ap next later.1) ∙ is)
 next_at w q c m out (Some (Put p f)) None r (inr first) is = request_is c FIRST p f r (sym (ap next first.1) ∙ is)
 next_at w q c m out None (Some input.Start) r at is = absurd (let none : None ≡ Some r = sym (ap next at.0.0) ∙ is in cc)

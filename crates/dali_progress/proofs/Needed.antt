@@ -33,10 +33,7 @@ before_compare : Plays (start plan 8) (machines_at 0 (block ∷ [])) 0 up_to_com
 unfolding command_of stage_of
 before_compare = plays_by (start plan 8) (machines_at 0 (block ∷ [])) 0 up_to_compare refl (
   given_first,
-  (
-    given_initialise,
-    (given_initialise_again, (given_randomise, (given_randomise_again, (given_high, (given_middle, (given_low, (given_compare, tt))))))),
-  ),
+  (given_initialise, (given_initialise_again, (given_randomise, (given_randomise_again, (given_high, (given_middle, (given_low, (given_compare, tt)))))))),
 )
 
 before_compare_rounds : Rounds false site 0 up_to_compare
@@ -162,7 +159,8 @@ starts_spent = begins_new numberless 8 64 block (plan_is 1 ((0, 3) ∷ []) [] re
 -- an opening, up to the order to send RANDOMISE again
 before_draw : Plays (start numberless 8) (machines_at 0 (block ∷ [])) 0 up_to_draw
 unfolding command_of stage_of
-before_draw = plays_by (start numberless 8) (machines_at 0 (block ∷ [])) 0 up_to_draw refl
+before_draw =
+    plays_by (start numberless 8) (machines_at 0 (block ∷ [])) 0 up_to_draw refl
     (given_first, (given_initialise, (given_initialise_again, (given_randomise, (given_randomise_again, tt)))))
 
 some_same : {A : Type 0} (x y : A) → Some x ≡ Some y → x ≡ y
@@ -198,9 +196,4 @@ unfolding command_of stage_of
 unended e ended = cc
 
 pub no_number_is_left : IsStuck spent_site 0 up_to_draw
-no_number_is_left = record {
-  starts = starts_spent;
-  rounds = rounds_by spent_site 0 up_to_draw refl before_draw;
-  unended = unended;
-  stuck = no_round;
-}
+no_number_is_left = record { starts = starts_spent; rounds = rounds_by spent_site 0 up_to_draw refl before_draw; unended = unended; stuck = no_round }

@@ -33,8 +33,7 @@ rounds_by s c [] none plays = tt
 rounds_by s c (e ∷ es) none plays = (
   plays.0,
   of_round s c e none plays.1,
-  rounds_by (site_logged s e) c es none
-      (subst (λ w. Plays w (machines (site_logged s e)) c es) (sym (after_more (start s.plan s.queue) s.log e))
+  rounds_by (site_logged s e) c es none (subst (λ w. Plays w (machines (site_logged s e)) c es) (sym (after_more (start s.plan s.queue) s.log e))
       (subst (λ ms. Plays (happens (world s) e) ms c es) (sym (machines_more (start s.plan s.queue) (machines_at 0 s.plan.blocks) s.log e)) plays.2)),
 )
 
@@ -108,13 +107,7 @@ plays_by w ms c (event.Sent d f h ∷ es) pass given =
     let round : (is_next (next w.bus) d f && is_quiet w f h) ≡ true = first_of_both _ _ now in
     let request = next_by (next w.bus) d f (first_of_both _ _ round) in (
       allowed_by w (event.Sent d f h) (second_of_both _ _ now),
-      (
-        request.0,
-        request.1,
-        request.2,
-        request.3,
-        both_silent h (heard_of (answers_of Everyone (command_of f) 0 w.gear)) (second_of_both _ _ round),
-      ),
+      (request.0, request.1, request.2, request.3, both_silent h (heard_of (answers_of Everyone (command_of f) 0 w.gear)) (second_of_both _ _ round)),
       plays_by (happens w (event.Sent d f h)) (machines_after w ms (event.Sent d f h)) c es (second_of_both _ _ pass) given,
     )
 plays_by w ms c (_ ∷ es) pass given = absurd (cc)
@@ -136,8 +129,7 @@ pub record BreaksEnd (s : SiteState) (c : ℕ) (front : List Event) (e : Event) 
 
 -- then that event is of no round
 joined : (s : SiteState) (c : ℕ) (front : List Event) (e : Event) (back : List Event) → Rounds false s c front → Allowed (world (site_after s front)) e
-    → IsOfRound false (site_after s front) c e
-    → Rounds false (site_logged (site_after s front) e) c back → Rounds false s c (front ++ e ∷ back)
+    → IsOfRound false (site_after s front) c e → Rounds false (site_logged (site_after s front) e) c back → Rounds false s c (front ++ e ∷ back)
 joined s c [] e back before allowed of afterwards = (allowed, of, afterwards)
 joined s c (x ∷ front) e back before allowed of afterwards = (before.0, before.1, joined (site_logged s x) c front e back before.2 allowed of afterwards)
 

@@ -131,8 +131,9 @@ pump_refused s _ fits refused = absurd refused
 
 pub log_after : (s : SiteState) (es : List Event) → length (site_after s es).log ≡ length s.log + length es
 log_after s [] = omega arith
-log_after s (e ∷ es) = more (length (site_after (site_logged s e) es).log) (length (s.log ++ e ∷ [])) (length s.log) (length es)
-    (log_after (site_logged s e) es) (length_push s.log e) where
+log_after s (e ∷ es) =
+    more (length (site_after (site_logged s e) es).log) (length (s.log ++ e ∷ [])) (length s.log) (length es) (log_after (site_logged s e) es)
+    (length_push s.log e) where
       more : (x y z n : ℕ) → x ≡ y + n → y ≡ z + 1 → x ≡ z + suc n
       more x y z n one two = omega (arith, one, two)
 
@@ -167,8 +168,7 @@ spares_after b s es alone spares rounds i refused = go spares where
 
   go : SparesUsed b s → ⊥
   go (inl none) =
-      none_used t now.machine i refused.4.0
-      (ap (λ (k : Kept). k.block) now.lone.kept ∙ (records_now t.plan t.queue t.log now.run).block 0 now.lone.up.known)
+      none_used t now.machine i refused.4.0 (ap (λ (k : Kept). k.block) now.lone.kept ∙ (records_now t.plan t.queue t.log now.run).block 0 now.lone.up.known)
       (subst HasNoneUsed (sym (plan_after s es)) none) (subst (λ n. MayAnswer n i refused.4.0) now.there refused.4.1) refused.4.2
   go (inr powered) =
       let peace = alone_in_peace s 0 es (alone_of b s 0 alone) powered.1 (subst (λ y. Rounds y s 0 es) powered.0 rounds) in
@@ -200,8 +200,8 @@ record IsSpentOut (by : Bool) (s t : SiteState) : Type 0 where
   pub spent : IsPumpRefused t trouble.None refusal.DrawsSpent
 
 -- in such a run nothing is refused but the bus, for want of numbers
-refused_so : (b : Beginning) (limit : ℕ) (n between : Installation) (sent : ℕ) (text : List ℕ) (m : Installation)
-    → RanAlone b limit n between sent text m → HasRoom b n.site → WasRefused between sent text m → IsSpentOut (by_survey b) n.site m.site
+refused_so : (b : Beginning) (limit : ℕ) (n between : Installation) (sent : ℕ) (text : List ℕ) (m : Installation) → RanAlone b limit n between sent text m
+    → HasRoom b n.site → WasRefused between sent text m → IsSpentOut (by_survey b) n.site m.site
 refused_so b limit n between sent text m ran room r =
     let comes = all_played between r.between r.rounds sent r.front only r.played in
     at r.between m r.rounds sent r.last comes (one_more between r.between r.rounds sent only comes) r.refused
@@ -251,8 +251,7 @@ run_commissions b limit n between sent text m ran enough room numbers = go (run_
   go : HasEndedBy b n.site m.site 0 ⊎ IsSpentOut (by_survey b) n.site m.site → HasEndedBy b n.site m.site 0
   go (inl ended) = ended
   go (inr out) =
-      absurd (never_spent b n.site 0 out.events ran.alone numbers out.rounds
-      (subst (λ s. IsPumpRefused s trouble.None refusal.DrawsSpent) out.is out.spent))
+      absurd (never_spent b n.site 0 out.events ran.alone numbers out.rounds (subst (λ s. IsPumpRefused s trouble.None refusal.DrawsSpent) out.is out.spent))
 
 -- ---------------------------------------------------------------- a run of a new installation
 

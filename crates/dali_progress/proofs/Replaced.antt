@@ -140,13 +140,12 @@ pub others_named : (s : SiteState) (c : ℕ) (es : List Event) (e : End) → IsA
 others_named s c es e alone rounds ended k b has seen =
     let t : SiteState = site_after s es in
     let kept = others_kept s c es alone rounds k b has in
-    go kept (named BySurvey s c es e alone rounds ended k b kept.0.0
-    (short_now t (runs_after BySurvey s c es alone rounds).runs.run k b kept.0.0 kept.0.1) kept.0.1)
+    go kept (named BySurvey s c es e alone rounds ended k b kept.0.0 (short_now t (runs_after BySurvey s c es alone rounds).runs.run k b kept.0.0 kept.0.1)
+    kept.0.1)
   where
     go : HoldsShort (world (site_after s es)) k b × ((gear_at (world (site_after s es)) k).random ≡ (gear_at (world s) k).random)
         → Has (table_at (site_after s es) c) (b, (gear_at (world (site_after s es)) k).random)
-        ⊎ (((gear_at (world s) k).short ≡ Some b) × IsUnseen (gear_at (world s) k))
-        → Has (table_at (site_after s es) c) (b, (gear_at (world s) k).random)
+        ⊎ (((gear_at (world s) k).short ≡ Some b) × IsUnseen (gear_at (world s) k)) → Has (table_at (site_after s es) c) (b, (gear_at (world s) k).random)
     go kept (inl has) = subst (λ r. Has (table_at (site_after s es) c) (b, r)) kept.1 has
     go kept (inr unseen) = absurd (seen unseen.1)
 
@@ -171,8 +170,7 @@ run_served limit g a n between sent text m ran settled new room numbers enough =
 
     by : HasEndedBy BySurvey n.site m.site 0
     by =
-        run_commissions BySurvey limit n between sent text m ran
-        (few_events (bare n.site) (one_new n.site 0 g a new) limit enough) room
+        run_commissions BySurvey limit n between sent text m ran (few_events (bare n.site) (one_new n.site 0 g a new) limit enough) room
         (once (bare n.site) (length (world n.site).left) (one_new n.site 0 g a new) numbers)
 
 -- ---------------------------------------------------------------- what is vacant
@@ -237,8 +235,7 @@ new_site p queue room g a plan one is = record {
 
 -- A NEW INSTALLATION in which one gear is new: it gets the address
 pub new_served : (limit g a : ℕ) (p : Plan) (between : Installation) (sent : ℕ) (text : List ℕ) (m : Installation) → IsPlan p → p.gear ≤ 128
-    → p.blocks ≡ only a ∷ [] → IsReplacing p g a → 0 < length p.draws → 1092 < limit → HasBegun true (installation_of p) between
-    → Ran limit between sent text m
+    → p.blocks ≡ only a ∷ [] → IsReplacing p g a → 0 < length p.draws → 1092 < limit → HasBegun true (installation_of p) between → Ran limit between sent text m
     → (e : End) × HasEnded m.site 0 e × IsServed (installation_of p).site m.site 0 g e × HoldsShort (world m.site) g a
 new_served limit g a p between sent text m plan few one is draws enough begins ran =
     let done =

@@ -85,17 +85,14 @@ none_some x same = cc
 
 -- THE NEXT FRAME of the transaction that runs
 pub later_given : (m : Machine) (i : Input) (s : Stage) (x : Command) → (i ≡ input.CommitFailed → ⊥) → IsAt (machine_told m i) s
-    → running_close (machine_told m i) ≡ None
-    → turn_of (machine_told m i).course.purpose (machine_told m i).course.number s ≡ Some x → ((machine_told m i).trace ≡ [] → ⊥)
-    → Lawful (machine_told m i).kept.block (machine_told m i).kept.reserved (machine_told m i).trace (frame_of x)
+    → running_close (machine_told m i) ≡ None → turn_of (machine_told m i).course.purpose (machine_told m i).course.number s ≡ Some x
+    → ((machine_told m i).trace ≡ [] → ⊥) → Lawful (machine_told m i).kept.block (machine_told m i).kept.reserved (machine_told m i).trace (frame_of x)
     → ((g : Forward) → command_of (frame_of x) ≡ Arc g → ⊥) → IsGiven m i (Put LATER (frame_of x))
 later_given m i s x other at unclosed turn some lawful addressing =
-    given m i (Put LATER (frame_of x)) other
-    (ordered (machine_told m i) s (Put LATER (frame_of x)) at (inr (refl, some, lawful)) addressing
+    given m i (Put LATER (frame_of x)) other (ordered (machine_told m i) s (Put LATER (frame_of x)) at (inr (refl, some, lawful)) addressing
     (subst (λ d. IsCaused (machine_told m i) d (Put LATER (frame_of x)))
     (sym (course_stays (machine_told m i) s at.stage (plain_unasked s (machine_told m i).course.purpose at.plain)))
-    (subst (λ e. IsBegun (machine_told m i) e) (sym unclosed) unclosed, inl unclosed)))
-    (λ e. absurd (omega (arith, e)))
+    (subst (λ e. IsBegun (machine_told m i) e) (sym unclosed) unclosed, inl unclosed))) (λ e. absurd (omega (arith, e)))
     (followed (machine_told m i) s (Put LATER (frame_of x)) at (λ c e. ap (λ y. Put LATER (frame_of y)) (some_same x c (sym turn ∙ e))))
 
 -- THE FIRST FRAME of the transaction that begins
@@ -106,20 +103,16 @@ pub first_given : (m : Machine) (i : Input) (s : Stage) (x : Command) → (i ≡
     → Lawful (machine_told m i).kept.block (machine_told m i).kept.reserved [] (frame_of x) → ((g : Forward) → command_of (frame_of x) ≡ Arc g → ⊥)
     → IsGiven m i (Put FIRST (frame_of x))
 first_given m i s x other at turn first caused lawful addressing =
-    given m i (Put FIRST (frame_of x)) other
-    (ordered (machine_told m i) s (Put FIRST (frame_of x)) at (inl (refl, lawful)) addressing caused)
-    (λ e. ap frame_of first)
-    (followed (machine_told m i) s (Put FIRST (frame_of x)) at (λ c e. absurd (none_some c (sym turn ∙ e))))
+    given m i (Put FIRST (frame_of x)) other (ordered (machine_told m i) s (Put FIRST (frame_of x)) at (inl (refl, lawful)) addressing caused)
+    (λ e. ap frame_of first) (followed (machine_told m i) s (Put FIRST (frame_of x)) at (λ c e. absurd (none_some c (sym turn ∙ e))))
 
 -- THE END of a close
 pub done_given : (m : Machine) (i : Input) (e : End) → (i ≡ input.CommitFailed → ⊥) → IsAt (machine_told m i) Terminated
-    → running_close (machine_told m i) ≡ Some e
-    → turn_of (machine_told m i).course.purpose (machine_told m i).course.number Terminated ≡ None → IsGiven m i (Done e)
+    → running_close (machine_told m i) ≡ Some e → turn_of (machine_told m i).course.purpose (machine_told m i).course.number Terminated ≡ None
+    → IsGiven m i (Done e)
 done_given m i e other at closes turn =
-    given m i (Done e) other
-    (ordered (machine_told m i) Terminated (Done e) at tt tt (inr (closes, at.stage)))
-    tt
-    (followed (machine_told m i) Terminated (Done e) at (λ c e. absurd (none_some c (sym turn ∙ e))))
+    given m i (Done e) other (ordered (machine_told m i) Terminated (Done e) at tt tt (inr (closes, at.stage)))
+    tt (followed (machine_told m i) Terminated (Done e) at (λ c e. absurd (none_some c (sym turn ∙ e))))
 
 -- A SHORT SESSION: a controller that hears nothing. It opens, asks whether any gear is at or below
 -- FFFFFE, closes, and ends: all gear are found.
@@ -215,61 +208,63 @@ heard e = cc
 
 pub given_first : IsGiven begun input.Start (Put 3 (frame 0xA1 0))
 unfolding command_of stage_of
-given_first = first_given begun input.Start Free Terminate (λ e. cc) (record { stage = refl; plain = tt; tries = refl; silent = refl; last = tt }) refl refl
+given_first =
+    first_given begun input.Start Free Terminate (λ e. cc) (record { stage = refl; plain = tt; tries = refl; silent = refl; last = tt }) refl refl
     (refl, inl refl) (Open, tt, refl) (λ g e. cc)
 
 pub given_initialise : IsGiven terminating silent (later 0xA5 0xFF)
 unfolding command_of stage_of
-given_initialise = later_given terminating silent Terminated (Initialise Unaddressed) heard
-    (record { stage = refl; plain = tt; tries = refl; silent = refl; last = tt }) refl refl (λ e. cc) (Open, tt, (refl, tt, refl)) (λ g e. cc)
+given_initialise =
+    later_given terminating silent Terminated (Initialise Unaddressed) heard (record { stage = refl; plain = tt; tries = refl; silent = refl; last = tt })
+    refl refl (λ e. cc) (Open, tt, (refl, tt, refl)) (λ g e. cc)
 
 pub given_initialise_again : IsGiven initialising silent (later 0xA5 0xFF)
 unfolding command_of stage_of
-given_initialise_again = later_given initialising silent InitialisedOnce (Initialise Unaddressed) heard
-    (record { stage = refl; plain = tt; tries = refl; silent = refl; last = tt }) refl refl (λ e. cc)
-    (Open, tt, (refl, tt, (refl, tt, refl))) (λ g e. cc)
+given_initialise_again =
+    later_given initialising silent InitialisedOnce (Initialise Unaddressed) heard
+    (record { stage = refl; plain = tt; tries = refl; silent = refl; last = tt }) refl refl (λ e. cc) (Open, tt, (refl, tt, (refl, tt, refl))) (λ g e. cc)
 
 pub given_randomise : IsGiven initialising_again silent (later 0xA7 0)
 unfolding command_of stage_of
-given_randomise = later_given initialising_again silent Initialised Randomise heard
-    (record { stage = refl; plain = tt; tries = refl; silent = refl; last = tt }) refl refl (λ e. cc)
-    (Open, tt, (refl, tt, (refl, tt, (refl, tt, refl)))) (λ g e. cc)
+given_randomise =
+    later_given initialising_again silent Initialised Randomise heard (record { stage = refl; plain = tt; tries = refl; silent = refl; last = tt }) refl refl
+    (λ e. cc) (Open, tt, (refl, tt, (refl, tt, (refl, tt, refl)))) (λ g e. cc)
 
 pub given_randomise_again : IsGiven randomising silent (later 0xA7 0)
 unfolding command_of stage_of
-given_randomise_again = later_given randomising silent RandomisedOnce Randomise heard
-    (record { stage = refl; plain = tt; tries = refl; silent = refl; last = tt }) refl refl (λ e. cc)
-    (Open, tt, (refl, tt, (refl, tt, (refl, tt, (refl, tt, refl))))) (λ g e. cc)
+given_randomise_again =
+    later_given randomising silent RandomisedOnce Randomise heard (record { stage = refl; plain = tt; tries = refl; silent = refl; last = tt }) refl refl
+    (λ e. cc) (Open, tt, (refl, tt, (refl, tt, (refl, tt, (refl, tt, refl))))) (λ g e. cc)
 
 pub given_high : IsGiven randomising_again silent (Put 3 (frame 0xB1 0xFF))
 unfolding command_of stage_of
 given_high = first_given randomising_again silent Opened (SearchHigh 0xFF) heard (record { stage = refl; plain = tt; tries = refl; silent = refl; last = tt })
-    refl refl (refl, inl refl)
-    (Probe highest, tt, refl) (λ g e. cc)
+    refl refl (refl, inl refl) (Probe highest, tt, refl) (λ g e. cc)
 
 pub given_middle : IsGiven searching_high silent (later 0xB3 0xFF)
 unfolding command_of stage_of
-given_middle = later_given searching_high silent (HighSent 0xFF) (SearchMiddle 0xFF) heard
-    (record { stage = refl; plain = tt; tries = refl; silent = refl; last = tt }) refl refl (λ e. cc)
-    (Probe highest, tt, (refl, tt, refl)) (λ g e. cc)
+given_middle =
+    later_given searching_high silent (HighSent 0xFF) (SearchMiddle 0xFF) heard (record { stage = refl; plain = tt; tries = refl; silent = refl; last = tt })
+    refl refl (λ e. cc) (Probe highest, tt, (refl, tt, refl)) (λ g e. cc)
 
 pub given_low : IsGiven searching_middle silent (later 0xB5 0xFE)
 unfolding command_of stage_of
-given_low = later_given searching_middle silent (MiddleSent 0xFF 0xFF) (SearchLow 0xFE) heard
-    (record { stage = refl; plain = tt; tries = refl; silent = refl; last = tt }) refl refl (λ e. cc)
-    (Probe highest, tt, (refl, tt, (refl, tt, refl))) (λ g e. cc)
+given_low =
+    later_given searching_middle silent (MiddleSent 0xFF 0xFF) (SearchLow 0xFE) heard
+    (record { stage = refl; plain = tt; tries = refl; silent = refl; last = tt }) refl refl (λ e. cc) (Probe highest, tt, (refl, tt, (refl, tt, refl)))
+    (λ g e. cc)
 
 pub given_compare : IsGiven searching_low silent (later 0xA9 0)
 unfolding command_of stage_of
-given_compare = later_given searching_low silent (NumberSent highest) Compare heard
-    (record { stage = refl; plain = tt; tries = refl; silent = refl; last = tt }) refl refl (λ e. cc)
-    (Probe highest, tt, (refl, tt, (refl, tt, (refl, tt, refl)))) (λ g e. cc)
+given_compare =
+    later_given searching_low silent (NumberSent highest) Compare heard (record { stage = refl; plain = tt; tries = refl; silent = refl; last = tt }) refl refl
+    (λ e. cc) (Probe highest, tt, (refl, tt, (refl, tt, (refl, tt, refl)))) (λ g e. cc)
 
 pub given_close : IsGiven comparing silent (Put 3 (frame 0xA1 0))
 unfolding command_of stage_of
-given_close = first_given comparing silent (Probed highest Silence) Terminate heard
-    (record { stage = refl; plain = tt; tries = refl; silent = refl; last = tt }) refl refl
-    (inr (refl, (refl, record { number = highest; stage = refl; last = refl })), inr (refl, refl)) (Close, tt, refl) (λ g e. cc)
+given_close =
+    first_given comparing silent (Probed highest Silence) Terminate heard (record { stage = refl; plain = tt; tries = refl; silent = refl; last = tt })
+    refl refl (inr (refl, (refl, record { number = highest; stage = refl; last = refl })), inr (refl, refl)) (Close, tt, refl) (λ g e. cc)
 
 pub given_done : IsGiven closing silent (Done AllFound)
 unfolding command_of stage_of

@@ -88,8 +88,8 @@ pub nobody_on : (gs hs : List Gear) (a : ℕ) → SameCore gs hs → Nobody gs a
 nobody_on gs hs a same none g holds = none g (holds_back gs hs g a same holds)
 
 -- a number was told: the mark goes, or it is FFFFFF, and the address is not reserved
-pub told_clear : (a b n : ℕ) (k : Kept) (marks : Shorts) (gs : List Gear) (g : ℕ) → b ≡ a → a < 64 → IsAtHand k gs → Holds gs g a
-    → n ≡ (gear_of gs g).random → IsClearBut k marks a → IsClear k (if n == MASK24 then with_short marks b else without_short marks b)
+pub told_clear : (a b n : ℕ) (k : Kept) (marks : Shorts) (gs : List Gear) (g : ℕ) → b ≡ a → a < 64 → IsAtHand k gs → Holds gs g a → n ≡ (gear_of gs g).random
+    → IsClearBut k marks a → IsClear k (if n == MASK24 then with_short marks b else without_short marks b)
 told_clear a b n k marks gs g same small told holds number clear c q has = go (n == MASK24) refl (c == a) refl where
   within : b < 64
   within = subst (λ m. m < 64) (sym same) small
@@ -128,11 +128,12 @@ first_asked a k marks gs numbers h v one said = go (heard_high a High gs h one s
     asked = (refl, tells_on gs _ a g (λ r. high_of (gear_of gs g).random ≡ high_of r) same holds refl);
     clear = clear_with k marks a a refl v.small (λ c q has apart. v.clear c q has);
   })
-  go (inr (none, silent)) = subst (λ b. AskedWith a stage.Free k marks gs numbers (RandomByte a High) b) (sym silent)
+  go (inr (none, silent)) =
+      subst (λ b. AskedWith a stage.Free k marks gs numbers (RandomByte a High) b) (sym silent)
       (record { small = v.small; asked = (refl, nobody_on gs _ a same none); clear = v.clear })
 
-second_asked : (a b u : ℕ) (k : Kept) (marks : Shorts) (gs : List Gear) (numbers : List ℕ) (h : Answer)
-    → IsAskedOf a (stage.HighAsked b (Some u)) k marks gs → OneGear gs → h ≡ heard_of (answers_of Everyone (RandomByte b Middle) 0 gs)
+second_asked : (a b u : ℕ) (k : Kept) (marks : Shorts) (gs : List Gear) (numbers : List ℕ) (h : Answer) → IsAskedOf a (stage.HighAsked b (Some u)) k marks gs
+    → OneGear gs → h ≡ heard_of (answers_of Everyone (RandomByte b Middle) 0 gs)
     → AskedWith a (stage.HighAsked b (Some u)) k marks gs numbers (RandomByte b Middle) h
 second_asked a b u k marks gs numbers h v one said =
     go (heard_high a Middle gs h one (subst (λ d. h ≡ heard_of (answers_of Everyone (RandomByte d Middle) 0 gs)) v.asked.0 said)) where
@@ -185,8 +186,8 @@ abbrev pub AskedTo : ℕ → Stage → Kept → Shorts → List Gear → List �
 AskedTo a s k marks gs numbers c h = AskedWith a s k marks gs numbers c h × SameCore gs (row_after Everyone c 0 gs numbers)
 
 pub asked_sent : (a : ℕ) (s : Stage) (k : Kept) (marks : Shorts) (n : SearchAddress) (gs : List Gear) (numbers : List ℕ) (c : Command) (h : Answer)
-    → IsAskedOf a s k marks gs → Sends (Asking a) n k s c → IsAtHand k gs
-    → ((c ≡ QueryShort → ⊥) → h ≡ heard_of (answers_of Everyone c 0 gs)) → AskedTo a s k marks gs numbers c h
+    → IsAskedOf a s k marks gs → Sends (Asking a) n k s c → IsAtHand k gs → ((c ≡ QueryShort → ⊥) → h ≡ heard_of (answers_of Everyone c 0 gs))
+    → AskedTo a s k marks gs numbers c h
 asked_sent a stage.Free k marks n gs numbers c h v is hand said =
     subst (λ d. ((d ≡ QueryShort → ⊥) → h ≡ heard_of (answers_of Everyone d 0 gs)) → AskedTo a stage.Free k marks gs numbers d h) (sym is) (λ now. (
       first_asked a k marks gs numbers h v (one_gear gs hand.one) (now (λ e. (let never : RandomByte a High ≡ QueryShort = e in cc))),
@@ -361,8 +362,8 @@ roll_over (stage.Hunted r (Some h) room) n gs v over running = (r, h, room, refl
 roll_over _ n gs v over running = absurd v.stage_is
 
 -- and a draw once gear have drawn
-pub draw_over : (p : Purpose) (s : Stage) (n : SearchAddress) (gs : List Gear) → IsDraws p → IsDraw p s n gs → turn_of p n s ≡ None
-    → (s ≡ stage.Free → ⊥) → s ≡ stage.Opened
+pub draw_over : (p : Purpose) (s : Stage) (n : SearchAddress) (gs : List Gear) → IsDraws p → IsDraw p s n gs → turn_of p n s ≡ None → (s ≡ stage.Free → ⊥)
+    → s ≡ stage.Opened
 draw_over p stage.Free n gs is v over running = absurd (running refl)
 draw_over p stage.Opened n gs is v over running = refl
 draw_over Opening stage.Terminated n gs is v over running = absurd (cc)
@@ -406,12 +407,12 @@ compare_next r last left h some =
 
 -- COMPARE, the first time or once more
 compared : (r : SearchAddress) (last : Option Answer) (room : ℕ) (n : SearchAddress) (gs : List Gear) (numbers : List ℕ) (h : Answer)
-    → IsRollCall (stage.Hunted r last room) n gs → r ≡ n → 0 < room → room ≤ 2 → (0 < count_by is_bare gs → room ≡ 2)
-    → IsTakenBut Compare gs numbers h → Seeks (stage.Hunted r last room) gs → RollSent (stage.Hunted r last room) n gs numbers Compare h
+    → IsRollCall (stage.Hunted r last room) n gs → r ≡ n → 0 < room → room ≤ 2 → (0 < count_by is_bare gs → room ≡ 2) → IsTakenBut Compare gs numbers h
+    → Seeks (stage.Hunted r last room) gs → RollSent (stage.Hunted r last room) n gs numbers Compare h
 compared r last room n gs numbers h v same some few full t seek =
-    rw (compare_next r last room h some)
-    (roll_on (stage.Hunted r last room) (stage.Hunted r (Some h) (room - 1)) n gs (row_after Everyone Compare 0 gs numbers) Compare v tt (same, answered)
-    (stays_initialised Compare gs numbers tt gear) (low_after Compare gs numbers tt low) (omega (arith, some, few)) (omega (arith, some)))
+    rw (compare_next r last room h some) (roll_on (stage.Hunted r last room) (stage.Hunted r (Some h) (room - 1)) n gs
+    (row_after Everyone Compare 0 gs numbers) Compare v tt (same, answered) (stays_initialised Compare gs numbers tt gear)
+    (low_after Compare gs numbers tt low) (omega (arith, some, few)) (omega (arith, some)))
   where
     gear : AreOpening stage.Initialised gs
     gear = v.gear
@@ -565,14 +566,14 @@ draw_sent stage.InitialisedOnce n k gs numbers d h v is t =
     (undrawn_after (Initialise Unaddressed) gs numbers tt v.drawn.0, v.drawn.1) (opening.opening_initialised gs numbers v.gear) (λ e. refl))
 draw_sent stage.Initialised n k gs numbers d h v is t =
     subst (λ e. DrawSent Drawing stage.Initialised n gs numbers e h) (some_is (SearchHigh n.high) d is)
-    (draw_on Drawing stage.Initialised (stage.WokenHigh n.high) n gs numbers (SearchHigh n.high) v (inl tt) tt
-    (refl, leaving.seek_high gs numbers n.high) (undrawn_after (SearchHigh n.high) gs numbers tt v.drawn.0, v.drawn.1)
-    (stays_initialised (SearchHigh n.high) gs numbers tt v.gear) (λ e. refl))
+    (draw_on Drawing stage.Initialised (stage.WokenHigh n.high) n gs numbers (SearchHigh n.high) v (inl tt) tt (refl, leaving.seek_high gs numbers n.high)
+    (undrawn_after (SearchHigh n.high) gs numbers tt v.drawn.0, v.drawn.1) (stays_initialised (SearchHigh n.high) gs numbers tt v.gear) (λ e. refl))
 draw_sent (stage.WokenHigh high) n k gs numbers d h v is t =
     subst (λ e. DrawSent Drawing (stage.WokenHigh high) n gs numbers e h) (some_is (SearchMiddle n.middle) d is)
     (draw_on Drawing (stage.WokenHigh high) (stage.WokenMiddle high n.middle) n gs numbers (SearchMiddle n.middle) v (inl tt) tt
     (v.stage_is.0, refl, leaving.seek_middle gs numbers high n.middle v.stage_is.1)
-    (undrawn_after (SearchMiddle n.middle) gs numbers tt v.drawn.0, v.drawn.1) (stays_initialised (SearchMiddle n.middle) gs numbers tt v.gear) (λ e. refl))
+    (undrawn_after (SearchMiddle n.middle) gs numbers tt v.drawn.0, v.drawn.1) (stays_initialised (SearchMiddle n.middle) gs numbers tt v.gear)
+    (λ e. refl))
 draw_sent (stage.WokenMiddle high middle) n k gs numbers d h v is t =
     subst (λ e. IsTakenBut e gs numbers h → DrawSent Drawing (stage.WokenMiddle high middle) n gs numbers e h) (some_is Compare d is)
     (λ now. go (now.heard (λ e. (let never : Compare ≡ QueryShort = e in cc)) ∙ silent)) t
@@ -589,8 +590,8 @@ draw_sent (stage.WokenMiddle high middle) n k gs numbers d h v is t =
     go : h ≡ Silence → DrawSent Drawing (stage.WokenMiddle high middle) n gs numbers Compare h
     go none =
         subst (λ a. DrawSent Drawing (stage.WokenMiddle high middle) n gs numbers Compare a) (sym none)
-        (draw_on Drawing (stage.WokenMiddle high middle) stage.DrawFree n gs numbers Compare v (inl tt) tt tt (undrawn_after Compare gs numbers tt v.drawn.0)
-        (stays_initialised Compare gs numbers tt v.gear) (λ e. refl))
+        (draw_on Drawing (stage.WokenMiddle high middle) stage.DrawFree n gs numbers Compare v (inl tt) tt tt
+        (undrawn_after Compare gs numbers tt v.drawn.0) (stays_initialised Compare gs numbers tt v.gear) (λ e. refl))
 draw_sent stage.DrawFree n k gs numbers d h v is t =
     subst (λ e. DrawSent Drawing stage.DrawFree n gs numbers e h) (some_is Randomise d is)
     (draw_on Drawing stage.DrawFree stage.RandomisedOnce n gs numbers Randomise v (inr (refl, inl v.gear)) tt tt (undrawn_once gs numbers v.gear v.drawn)

@@ -117,16 +117,14 @@ abbrev pub IsTabledTo : List Gear → Stage → SearchAddress → List Assignmen
 IsTabledTo before s n xs gs numbers c h = AreTabled before (to_come (next_stage s c h) n xs) (row_after Everyone c 0 gs numbers)
 
 left_to : (before : List Gear) (s : Stage) (n : SearchAddress) (xs : List Assignment) (gs : List Gear) (numbers : List ℕ) (c d : Command) (h : Answer) → d ≡ c
-    → LeavesNames d → AreTabled before xs gs
-    → IsTabledTo before s n xs gs numbers c h
+    → LeavesNames d → AreTabled before xs gs → IsTabledTo before s n xs gs numbers c h
 left_to before s n xs gs numbers c d h is leaves tabled =
     subst (λ e. IsTabledTo before s n xs gs numbers e h) is
     (tabled_over before xs (to_come (next_stage s d h) n xs) (row_after Everyone d 0 gs numbers) (come_more (next_stage s d h) n xs)
     (tabled_left before xs gs numbers d leaves tabled))
 
 opening_tabled : (before : List Gear) (s : Stage) (k : Kept) (opened : Bool) (n : SearchAddress) (gs : List Gear) (numbers : List ℕ) (left : ℕ) (c : Command)
-    (h : Answer) → Opens s gs left → Sends Opening n k s c
-    → AreTabled before (to_come s n k.enrolled) gs → IsTabledTo before s n k.enrolled gs numbers c h
+    (h : Answer) → Opens s gs left → Sends Opening n k s c → AreTabled before (to_come s n k.enrolled) gs → IsTabledTo before s n k.enrolled gs numbers c h
 opening_tabled before stage.Free k opened n gs numbers left c h o is tabled = left_to before stage.Free n k.enrolled gs numbers c Terminate h (sym is) tt tabled
 opening_tabled before stage.Terminated k opened n gs numbers left c h o is tabled =
     left_to before stage.Terminated n k.enrolled gs numbers c (Initialise Unaddressed) h (some_is (Initialise Unaddressed) c is) tt tabled
@@ -142,8 +140,7 @@ opening_tabled before stage.Opened k opened n gs numbers left c h o is tabled = 
 opening_tabled before _ k opened n gs numbers left c h o is tabled = absurd o.stage_is
 
 probing_tabled : (before : List Gear) (s : Stage) (k : Kept) (x : Search) (n : SearchAddress) (gs : List Gear) (numbers : List ℕ) (left : ℕ) (c : Command)
-    (h : Answer) → Probes s x n gs left → Sends Probing n k s c
-    → AreTabled before (to_come s n k.enrolled) gs → IsTabledTo before s n k.enrolled gs numbers c h
+    (h : Answer) → Probes s x n gs left → Sends Probing n k s c → AreTabled before (to_come s n k.enrolled) gs → IsTabledTo before s n k.enrolled gs numbers c h
 probing_tabled before stage.Free k x n gs numbers left c h p is tabled =
     left_to before stage.Free n k.enrolled gs numbers c (SearchHigh n.high) h (sym is) tt tabled
 probing_tabled before (stage.HighSent high) k x n gs numbers left c h p is tabled =
@@ -161,35 +158,36 @@ confirmed : (r : SearchAddress) (a : ℕ) (h : Answer) (k : Kept) (n : SearchAdd
 confirmed r a h k n gs left = verified_by (λ q. VisitsAt q k n gs left → q ≡ stage.Confirmed r a) r a (λ at. refl) (λ o at. absurd at.stage_is) h
 
 visiting_tabled : (before : List Gear) (s : Stage) (k : Kept) (n : SearchAddress) (gs : List Gear) (numbers : List ℕ) (left rest : ℕ) (c : Command) (h : Answer)
-    → VisitsAt s k n gs left → Sends Visiting n k s c → Seeks s gs
-    → VisitsAt (next_stage s c h) k n (row_after Everyone c 0 gs numbers) rest → AreTabled before (to_come s n k.enrolled) gs
-    → IsTabledTo before s n k.enrolled gs numbers c h
+    → VisitsAt s k n gs left → Sends Visiting n k s c → Seeks s gs → VisitsAt (next_stage s c h) k n (row_after Everyone c 0 gs numbers) rest
+    → AreTabled before (to_come s n k.enrolled) gs → IsTabledTo before s n k.enrolled gs numbers c h
 visiting_tabled before s k n gs numbers left rest c h v is seek next tabled =
     visit_by (λ t d. VisitsAt t k n gs left → Seeks t gs → VisitsAt (next_stage t d h) k n (row_after Everyone d 0 gs numbers) rest
-    → AreTabled before (to_come t n k.enrolled) gs → IsTabledTo before t n k.enrolled gs numbers d h) n k gs left
+    → AreTabled before (to_come t n k.enrolled) gs
+    → IsTabledTo before t n k.enrolled gs numbers d h) n k gs left
     (λ w by on was. left_to before stage.Free n k.enrolled gs numbers _ (SearchHigh n.high) h refl tt was)
     (λ high w by on was. left_to before (stage.HighSent high) n k.enrolled gs numbers _ (SearchMiddle n.middle) h refl tt was)
     (λ high middle w by on was. left_to before (stage.MiddleSent high middle) n k.enrolled gs numbers _ (SearchLow n.low) h refl tt was)
     (λ r w by on was. left_to before (stage.NumberSent r) n k.enrolled gs numbers _ QueryShort h refl tt was)
-    (λ r a small has w by on was. subst (λ (m : SearchAddress). AreTabled before ((a, value_of m) ∷ k.enrolled)
-    (row_after Everyone (Program (Some a)) 0 gs numbers))
+    (λ r a small has w by on was. subst
+    (λ (m : SearchAddress). AreTabled before ((a, value_of m) ∷ k.enrolled) (row_after Everyone (Program (Some a)) 0 gs numbers))
     (sym w.searched) (tabled_given before k.enrolled gs numbers r a (by r refl) was))
     (λ r a w by on was. subst (λ q. AreTabled before (to_come q n k.enrolled) (row_after Everyone QueryShort 0 gs numbers))
     (sym (confirmed r a h k n (row_after Everyone QueryShort 0 gs numbers) rest on))
     (tabled_left before ((a, value_of n) ∷ k.enrolled) gs numbers QueryShort tt was))
-    (λ r a w by on was. tabled_left before ((a, value_of n) ∷ k.enrolled) gs numbers Withdraw tt was) s c v is v seek next tabled
+    (λ r a w by on was. tabled_left before ((a, value_of n) ∷ k.enrolled) gs numbers Withdraw tt was)
+    s c v is v seek next tabled
 
 closing_tabled : (before : List Gear) (s : Stage) (k : Kept) (n : SearchAddress) (gs : List Gear) (numbers : List ℕ) (left : ℕ) (c : Command) (h : Answer)
-    (e : End) → Closes e s k gs left → Sends (Closing e) n k s c
-    → AreTabled before (to_come s n k.enrolled) gs → IsTabledTo before s n k.enrolled gs numbers c h
+    (e : End) → Closes e s k gs left → Sends (Closing e) n k s c → AreTabled before (to_come s n k.enrolled) gs
+    → IsTabledTo before s n k.enrolled gs numbers c h
 closing_tabled before stage.Free k n gs numbers left c h e v is tabled = left_to before stage.Free n k.enrolled gs numbers c Terminate h (sym is) tt tabled
 closing_tabled before stage.Terminated k n gs numbers left c h e v is tabled = absurd (cc)
 closing_tabled before _ k n gs numbers left c h e v is tabled = absurd v.stage_is
 
 pub at_tabled : (before : List Gear) (p : Purpose) (s : Stage) (k : Kept) (opened now : Bool) (x : Search) (n : SearchAddress) (gs : List Gear)
-    (numbers : List ℕ) (left rest : ℕ) (c : Command) (h : Answer)
-    → At p s k opened x n gs left → Sends p n k s c → Seeks s gs → At p (next_stage s c h) k now x n (row_after Everyone c 0 gs numbers) rest
-    → AreTabled before (to_come s n k.enrolled) gs → IsTabledTo before s n k.enrolled gs numbers c h
+    (numbers : List ℕ) (left rest : ℕ) (c : Command) (h : Answer) → At p s k opened x n gs left → Sends p n k s c → Seeks s gs
+    → At p (next_stage s c h) k now x n (row_after Everyone c 0 gs numbers) rest → AreTabled before (to_come s n k.enrolled) gs
+    → IsTabledTo before s n k.enrolled gs numbers c h
 at_tabled before Opening s k opened now x n gs numbers left rest c h at is seek next tabled =
     opening_tabled before s k opened n gs numbers left c h at.1 is tabled
 at_tabled before Probing s k opened now x n gs numbers left rest c h at is seek next tabled = probing_tabled before s k x n gs numbers left c h at.1 is tabled

@@ -88,8 +88,7 @@ same_left u t n is surveys =
 -- WHERE the transaction of a question is: which frame is sent after which
 abbrev pub Asks : ℕ → Stage → Command → Type 0
 Asks a s c =
-    ((s ≡ stage.Free) × (c ≡ RandomByte a High))
-    ⊎ (((b : ℕ) × (x : ℕ) × (s ≡ stage.HighAsked b (Some x)) × (c ≡ RandomByte b Middle) × (b ≡ a))
+    ((s ≡ stage.Free) × (c ≡ RandomByte a High)) ⊎ (((b : ℕ) × (x : ℕ) × (s ≡ stage.HighAsked b (Some x)) × (c ≡ RandomByte b Middle) × (b ≡ a))
     ⊎ ((b : ℕ) × (x : ℕ × ℕ) × (s ≡ stage.MiddleAsked b (Some x)) × (c ≡ RandomByte b Low) × (b ≡ a)))
 
 some_same : {A : Type 0} (x y : A) → Some x ≡ Some y → x ≡ y
@@ -109,11 +108,9 @@ asks_of k n a _ c sends = absurd (let none = sends.0 in cc)
 
 -- a machine that sends a later frame is where that frame is sent
 pub later_asks : (t : Machine) (f : Forward) (a : ℕ) (s : Stage) → t.course.purpose ≡ Asking a → stage_of t.trace ≡ s → IsUnasked s t.course.purpose
-    → IsWhole (machine_ordered t (Put LATER f))
-    → Asks a s (command_of f)
+    → IsWhole (machine_ordered t (Put LATER f)) → Asks a s (command_of f)
 later_asks t f a s purpose at unasked whole =
-    asks_of t.kept t.course.number a s (command_of f)
-    (subst (λ r. Sends t.kept t.course.number (Asking a) r (command_of f)) at
+    asks_of t.kept t.course.number a s (command_of f) (subst (λ r. Sends t.kept t.course.number (Asking a) r (command_of f)) at
     (subst (λ p. Sends t.kept t.course.number p (stage_of t.trace) (command_of f)) purpose
     (subst (λ (c : Course). Sends t.kept c.number c.purpose (stage_of t.trace) (command_of f)) (course_stays t s at unasked) whole.sends)))
 
@@ -189,13 +186,11 @@ first_left u t a k h one surveys purpose unopened at asked steady =
 
 -- a later query was heard: more of the transaction follows, or another begins
 over_left : (u : ℕ) (t : Machine) (a r : ℕ) (s : Stage) → 1 ≤ r → t.course.way ≡ Surveying → t.course.purpose ≡ Asking a → stage_of t.trace ≡ s
-    → IsUnasked s t.course.purpose
-    → begins_at t s ≡ goes_on_to t → ((k : ℕ) (c : Command) → Asks a s c → at_stage u k s + 1 ≤ r)
-    → (o : Order) → IsAllowed t o → IsWhole (machine_ordered t o) → OneLess u t (machine_ordered t o) r
+    → IsUnasked s t.course.purpose → begins_at t s ≡ goes_on_to t → ((k : ℕ) (c : Command) → Asks a s c → at_stage u k s + 1 ≤ r) → (o : Order) → IsAllowed t o
+    → IsWhole (machine_ordered t o) → OneLess u t (machine_ordered t o) r
 over_left u t a r s one surveys purpose at unasked over more =
-    by_order t (λ o. IsWhole (machine_ordered t o) → OneLess u t (machine_ordered t o) r) first later
-    (λ x whole. rest (machine_ordered t (Commit x)) refl refl) (λ e whole. rest (machine_ordered t (Done e)) refl refl)
-    (λ w whole. rest (machine_ordered t (Halt w)) refl refl) where
+    by_order t (λ o. IsWhole (machine_ordered t o) → OneLess u t (machine_ordered t o) r) first later (λ x whole. rest (machine_ordered t (Commit x)) refl refl)
+    (λ e whole. rest (machine_ordered t (Done e)) refl refl) (λ w whole. rest (machine_ordered t (Halt w)) refl refl) where
       rest : (n : Machine) → n.course ≡ t.course → of_last u n n.last ≡ 0 → OneLess u t n r
       rest n is none = one_still u t n r is (rw (same_left u t n is surveys, none) (omega (arith, one)))
 
@@ -227,11 +222,11 @@ sending_of m p f = go m.last where
 pub sent_left : (u : ℕ) (m : Machine) (h : Answer) (p : ℕ) (f : Forward) (a : ℕ) → 1 ≤ u → m.course.way ≡ Surveying → m.course.purpose ≡ Asking a
     → m.last ≡ Some (Put p f) → IsWhole m → (h ≡ Silence) ⊎ (3 ≤ waits u m.asked) → (o : Order) → IsAllowed (machine_heard m (Some f) h) o
     → IsWhole (machine_ordered (machine_heard m (Some f) h) o)
-    → 1 + left u (machine_ordered (machine_heard m (Some f) h) o) + granted u m.course.tally.askings
-    ≤ left u m + granted u (machine_ordered (machine_heard m (Some f) h) o).course.tally.askings
+    → 1 + left u (machine_ordered (machine_heard m (Some f) h) o) + granted u m.course.tally.askings ≤ left u m + granted u
+    (machine_ordered (machine_heard m (Some f) h) o).course.tally.askings
 sent_left u m h p f a one surveys purpose last whole steady o may after =
-    subst (λ r. 1 + left u (machine_ordered (machine_heard m (Some f) h) o) + granted u m.course.tally.askings
-    ≤ r + granted u (machine_ordered (machine_heard m (Some f) h) o).course.tally.askings) (sym here)
+    subst (λ r. 1 + left u (machine_ordered (machine_heard m (Some f) h) o) + granted u m.course.tally.askings ≤ r + granted u
+    (machine_ordered (machine_heard m (Some f) h) o).course.tally.askings) (sym here)
     (go (asks_of m.kept m.course.number a (stage_of m.trace) (command_of f) sends)) where
       waiting : of_last u m m.last ≡ at_stage u m.asked (stage_of m.trace)
       waiting = rw (last, purpose) refl
@@ -246,7 +241,8 @@ sent_left u m h p f a one surveys purpose last whole steady o may after =
       at = stage_more m.trace (record { frame = f; heard = h })
 
       unopened : m.course.opened ≡ false
-      unopened = (subst (λ q. Knows m.course.way m.kept m.course.number m.course.search m.course.ascent m.course.opened q) purpose
+      unopened =
+          (subst (λ q. Knows m.course.way m.kept m.course.number m.course.search m.course.ascent m.course.opened q) purpose
           (sending_of m p f last whole).ready.knows).0
 
       go : Asks a (stage_of m.trace) (command_of f)

@@ -68,8 +68,7 @@ IsSeen n a = IsEnded n ⊎ (IsTabled n a ⊎ IsToCome n a)
 
 -- a transaction that begins: the next short address is asked, or all are accounted for
 pub begins_on : (t : Machine) (f : Forward) (a : ℕ) → a < 64 → t.course.way ≡ Surveying → t.course.opened ≡ false → t.course.from ≤ a
-    → next_course t ≡ goes_on_to t
-    → IsTabled (machine_ordered t (Put FIRST f)) a ⊎ IsToCome (machine_ordered t (Put FIRST f)) a
+    → next_course t ≡ goes_on_to t → IsTabled (machine_ordered t (Put FIRST f)) a ⊎ IsToCome (machine_ordered t (Put FIRST f)) a
 begins_on t f a small surveys opened low on =
     go (next_asked t.kept t.course.from) (on ∙ course) (asked_later t.kept (64 - t.course.from) t.course.from)
     (asked_before t.kept (64 - t.course.from) t.course.from) where
@@ -198,8 +197,7 @@ StaysOrGoes t = (next_course t ≡ t.course) ⊎ (next_course t ≡ goes_on_to t
 
 -- an address that comes later
 pub ahead : (t : Machine) (a b : ℕ) → a < 64 → t.course.purpose ≡ Asking b → t.course.way ≡ Surveying → t.course.opened ≡ false → t.course.from ≤ a
-    → IsUnasked (stage_of t.trace) t.course.purpose → StaysOrGoes t
-    → (o : Order) → IsAllowed t o → IsSeen (machine_ordered t o) a
+    → IsUnasked (stage_of t.trace) t.course.purpose → StaysOrGoes t → (o : Order) → IsAllowed t o → IsSeen (machine_ordered t o) a
 ahead t a b small purpose surveys opened low unasked next =
     by_order t (λ o. IsSeen (machine_ordered t o) a) (λ f. first f next)
     (λ f running. inr (inr (b, ap (λ c. c.purpose) stays ∙ purpose, inl (subst (λ (c : Course). c.from ≤ a) (sym stays) low))))
@@ -207,8 +205,7 @@ ahead t a b small purpose surveys opened low unasked next =
       stays : course_on t (stage_of t.trace) ≡ t.course
       stays = stays_at t (stage_of t.trace) unasked
 
-      first : (f : Forward) → StaysOrGoes t
-          → IsSeen (machine_ordered t (Put FIRST f)) a
+      first : (f : Forward) → StaysOrGoes t → IsSeen (machine_ordered t (Put FIRST f)) a
       first f (inl same) = inr (inr (b, ap (λ c. c.purpose) same ∙ purpose, inl (subst (λ (c : Course). c.from ≤ a) (sym same) low)))
       first f (inr goes) = inr (begins_on t f a small surveys opened low goes)
 
@@ -219,9 +216,8 @@ pub again : (t : Machine) (a b : ℕ) (s : Stage) → t.course.purpose ≡ Askin
     → IsEnded (machine_ordered t o) ⊎ IsToCome (machine_ordered t o) a
 again t a b s purpose here same at named none last later =
     by_kind t (λ o. IsWhole (machine_ordered t o) → IsEnded (machine_ordered t o) ⊎ IsToCome (machine_ordered t o) a)
-    (λ f whole. inr (b, ap (λ c. c.purpose) same ∙ purpose, inr (here, λ x e. cc)))
-    (λ f running whole. absurd (later f running whole)) (λ x may whole. absurd (no_record t s x at named none last may))
-    (λ e whole. inl (inl (e, refl))) (λ w whole. inl (inr (w, refl)))
+    (λ f whole. inr (b, ap (λ c. c.purpose) same ∙ purpose, inr (here, λ x e. cc))) (λ f running whole. absurd (later f running whole))
+    (λ x may whole. absurd (no_record t s x at named none last may)) (λ e whole. inl (inl (e, refl))) (λ w whole. inl (inr (w, refl)))
 
 -- ---------------------------------------------------------------- a course
 
@@ -252,8 +248,8 @@ asked_after_small _ s h k small = omega arith
 
 told_small : (m : Machine) (i : Input) → m.asked ≤ 2 → (machine_told m i).asked ≤ 2
 told_small m i small =
-    told_keeps (λ t. t.asked ≤ 2) m i small small
-    (λ f h. asked_after_small m.course.purpose (stage_of (machine_heard m (Some f) h).trace) h m.asked small) small (λ x. small)
+    told_keeps (λ t. t.asked ≤ 2) m i small small (λ f h. asked_after_small m.course.purpose (stage_of (machine_heard m (Some f) h).trace) h m.asked small)
+    small (λ x. small)
 
 asked_small : (opened : Bool) (n : ℕ) → n ≤ 2 → asked_by opened n ≤ 2
 asked_small true n small = omega arith
@@ -276,8 +272,7 @@ commit_same o x e = cc
 
 -- while a short address is asked nothing is reserved
 pub unreserved_on : (m : Machine) (i : Input) (b c r : ℕ) → (m.last ≡ None → ⊥) → accepts (due_after m.last) i ≡ true → IsGiven m i (Commit (Reserve c r))
-    → IsWhole m
-    → IsAlone m → (machine_told m i).course.purpose ≡ Asking b → ⊥
+    → IsWhole m → IsAlone m → (machine_told m i).course.purpose ≡ Asking b → ⊥
 unreserved_on m input.Start b c r running due given whole alone purpose = running (started m.last input.Start refl due)
 unreserved_on m input.Survey b c r running due given whole alone purpose = running (started m.last input.Survey refl due)
 unreserved_on m (input.Heard h) b c r running due given whole alone purpose =
@@ -305,8 +300,7 @@ unreserving_after m i o running due given whole alone b purpose c r last =
 -- a short address that is to come, after one more step: its question was heard, or it is still to come
 abbrev ComesNext : Machine → Input → Order → ℕ → ℕ → Type 0
 ComesNext m i o a b =
-    ((h : Answer) × (i ≡ input.Heard h) × (b ≡ a))
-    ⊎ (IsSeen (machine_after m i o) a)
+    ((h : Answer) × (i ≡ input.Heard h) × (b ≡ a)) ⊎ (IsSeen (machine_after m i o) a)
 
 begins_by_stage : (t : Machine) (b : ℕ) (h : Answer) (m : Machine) → Hearing m t b h → StaysOrGoes t
 begins_by_stage t b h m hears = go hears.at where
@@ -332,8 +326,7 @@ heard_next m h o a b p f small purpose last given whole (inl low) =
     inr (subst (λ t. IsSeen (machine_ordered t o) a) (sym told)
     (ahead (machine_heard m (Some f) h) a b small purpose counts.way hears.opened low
     (asking_unasked (stage_of (machine_heard m (Some f) h).trace) m.course.purpose b purpose)
-    (begins_by_stage (machine_heard m (Some f) h) b h m hears) o
-    (subst (λ t. IsAllowed t o) told given.answered.allowed))) where
+    (begins_by_stage (machine_heard m (Some f) h) b h m hears) o (subst (λ t. IsAllowed t o) told given.answered.allowed))) where
       told : machine_told m (input.Heard h) ≡ machine_heard m (Some f) h
       told = ap (λ l. machine_heard m (frame_put l) h) last
 
@@ -346,8 +339,7 @@ heard_next m h o a b p f small purpose last given whole (inl low) =
 -- a question that was lost is put again
 lost_next : (m t : Machine) (o : Order) (a b p : ℕ) (f : Forward) → a < 64 → m.course.purpose ≡ Asking b → m.last ≡ Some (Put p f) → IsWhole m
     → t.course ≡ m.course → t.last ≡ m.last → t.trace ≡ [] → IsAllowed t o → IsWhole (machine_ordered t o)
-    → ((m.course.from ≤ a) ⊎ ((b ≡ a) × ((x : Record) → m.last ≡ Some (Commit x) → ⊥)))
-    → IsSeen (machine_ordered t o) a
+    → ((m.course.from ≤ a) ⊎ ((b ≡ a) × ((x : Record) → m.last ≡ Some (Commit x) → ⊥))) → IsSeen (machine_ordered t o) a
 lost_next m t o a b p f small purpose last whole course same_last free may after which = go which where
   counts : Counting m b
   counts = counting_ready m b purpose (sending_of m p f last whole).ready
@@ -361,32 +353,27 @@ lost_next m t o a b p f small purpose last whole course same_last free may after
   asks : t.course.purpose ≡ Asking b
   asks = ap (λ c. c.purpose) course ∙ purpose
 
-  go : (m.course.from ≤ a) ⊎ ((b ≡ a) × ((x : Record) → m.last ≡ Some (Commit x) → ⊥))
-      → IsSeen (machine_ordered t o) a
+  go : (m.course.from ≤ a) ⊎ ((b ≡ a) × ((x : Record) → m.last ≡ Some (Commit x) → ⊥)) → IsSeen (machine_ordered t o) a
   go (inl low) =
       ahead t a b small asks (ap (λ (c : Course). c.way) course ∙ counts.way) (ap (λ (c : Course). c.opened) course ∙ counts.opened)
-      (subst (λ (c : Course). c.from ≤ a) (sym course) low)
-      (asking_unasked (stage_of t.trace) t.course.purpose b asks) (inl same) o may
+      (subst (λ (c : Course). c.from ≤ a) (sym course) low) (asking_unasked (stage_of t.trace) t.course.purpose b asks) (inl same) o may
   go (inr (here, none)) =
       by (again t a b stage.Free asks here same at (λ n e. cc) (ap finding_of free ∙ none_found)
       (λ c n e. let other : Some (Put p f) ≡ Some (Commit (Enrol c n)) = sym last ∙ (sym same_last ∙ e) in cc)
       (λ g running whole. absurd (running free)) o may after)
     where
-      by : IsEnded (machine_ordered t o) ⊎ IsToCome (machine_ordered t o) a
-          → IsSeen (machine_ordered t o) a
+      by : IsEnded (machine_ordered t o) ⊎ IsToCome (machine_ordered t o) a → IsSeen (machine_ordered t o) a
       by (inl ends) = inl ends
       by (inr comes) = inr (inr comes)
 
 -- once a record is kept the next one is asked
 kept_next : (m : Machine) (x : Record) (o : Order) (a b : ℕ) → a < 64 → m.course.purpose ≡ Asking b → m.last ≡ Some (Commit x) → IsWhole m → m.trace ≡ []
     → ((c r : ℕ) → x ≡ Reserve c r → ⊥) → IsAllowed (machine_committed m (Some x)) o
-    → ((m.course.from ≤ a) ⊎ ((b ≡ a) × ((y : Record) → m.last ≡ Some (Commit y) → ⊥)))
-    → IsSeen (machine_ordered (machine_committed m (Some x)) o) a
+    → ((m.course.from ≤ a) ⊎ ((b ≡ a) × ((y : Record) → m.last ≡ Some (Commit y) → ⊥))) → IsSeen (machine_ordered (machine_committed m (Some x)) o) a
 kept_next m x o a b small purpose last whole free unreserved may (inr (here, none)) = absurd (none x last)
 kept_next m x o a b small purpose last whole free unreserved may (inl low) =
     ahead (machine_committed m (Some x)) a b small purpose counts.way counts.opened low (asking_unasked (stage_of m.trace) m.course.purpose b purpose)
-    (inr (ap (begins_at (machine_committed m (Some x))) at
-    ∙ ap (at_rest (machine_committed m (Some x))) last ∙ goes x unreserved)) o may where
+    (inr (ap (begins_at (machine_committed m (Some x))) at ∙ ap (at_rest (machine_committed m (Some x))) last ∙ goes x unreserved)) o may where
       counts : Counting m b
       counts = counting_ready m b purpose (storing_of m x last whole)
 
@@ -398,10 +385,9 @@ kept_next m x o a b small purpose last whole free unreserved may (inl low) =
       goes (Reserve c r) other = absurd (other c r refl)
       goes _ other = refl
 
-comes_next : (m : Machine) (i : Input) (o : Order) (a b : ℕ) → a < 64 → (m.last ≡ None → ⊥) → m.course.purpose ≡ Asking b
-    → accepts (due_after m.last) i ≡ true → IsGiven m i o → IsWhole m → IsAlone m → IsWhole (machine_after m i o)
-    → ((c r : ℕ) → m.last ≡ Some (Commit (Reserve c r)) → ⊥) → ((m.course.from ≤ a) ⊎ ((b ≡ a) × ((x : Record) → m.last ≡ Some (Commit x) → ⊥)))
-    → ComesNext m i o a b
+comes_next : (m : Machine) (i : Input) (o : Order) (a b : ℕ) → a < 64 → (m.last ≡ None → ⊥) → m.course.purpose ≡ Asking b → accepts (due_after m.last) i ≡ true
+    → IsGiven m i o → IsWhole m → IsAlone m → IsWhole (machine_after m i o) → ((c r : ℕ) → m.last ≡ Some (Commit (Reserve c r)) → ⊥)
+    → ((m.course.from ≤ a) ⊎ ((b ≡ a) × ((x : Record) → m.last ≡ Some (Commit x) → ⊥))) → ComesNext m i o a b
 comes_next m input.Start o a b small running purpose due given whole alone after unreserved which =
     absurd (running (started m.last input.Start refl due))
 comes_next m input.Survey o a b small running purpose due given whole alone after unreserved which =
@@ -418,8 +404,8 @@ comes_next m input.Committed o a b small running purpose due given whole alone a
     let kept = commit_is m.last due in
     let told : machine_told m input.Committed ≡ machine_committed m (Some kept.0) = ap (λ l. machine_committed m (record_ordered l)) kept.1 in
     inr (subst (λ t. IsSeen (machine_ordered t o) a) (sym told)
-    (kept_next m kept.0 o a b small purpose kept.1 whole (alone kept.0 kept.1)
-    (λ c r is. unreserved c r (kept.1 ∙ ap (λ x. Some (Commit x)) is)) (subst (λ t. IsAllowed t o) told given.answered.allowed) which))
+    (kept_next m kept.0 o a b small purpose kept.1 whole (alone kept.0 kept.1) (λ c r is. unreserved c r (kept.1 ∙ ap (λ x. Some (Commit x)) is))
+    (subst (λ t. IsAllowed t o) told given.answered.allowed) which))
 comes_next m input.CommitFailed o a b small running purpose due given whole alone after unreserved which =
     inr (inl (inr (fault.Store, ap (λ q. Some q) given.answered)))
 
@@ -444,9 +430,9 @@ seen_first : (id : ℕ) (k : Kept) (o : Order) (a : ℕ) → a < 64 → IsAllowe
     → IsSeen (machine_after (at_first id k) input.Survey o) a
 seen_first id k o a small =
     by_kind (machine_told (at_first id k) input.Survey) (λ o. IsSeen (machine_after (at_first id k) input.Survey o) a)
-    (λ f. inr (begins_on (machine_told (at_first id k) input.Survey) f a small refl refl (omega arith) goes))
-    (λ f running. absurd (running refl)) (λ x may. absurd (no_record (machine_told (at_first id k) input.Survey) stage.Free x stage_none (λ n e. cc) none_found
-    (λ b n e. cc) may)) (λ e. inl (inl (e, refl))) (λ w. inl (inr (w, refl))) o where
+    (λ f. inr (begins_on (machine_told (at_first id k) input.Survey) f a small refl refl (omega arith) goes)) (λ f running. absurd (running refl))
+    (λ x may. absurd (no_record (machine_told (at_first id k) input.Survey) stage.Free x stage_none (λ n e. cc) none_found (λ b n e. cc) may))
+    (λ e. inl (inl (e, refl))) (λ w. inl (inr (w, refl))) o where
       goes : next_course (machine_told (at_first id k) input.Survey) ≡ goes_on_to (machine_told (at_first id k) input.Survey)
       goes = ap (begins_at (machine_told (at_first id k) input.Survey)) stage_none
 
@@ -488,8 +474,8 @@ module _ (Q : Step → Type 0) (L : List Step → Machine → ℕ → Type 0) (a
     go (inl ends) = absurd (over_ends s.before.last s.told ends taken.due)
     go (inr (inl k)) = inr (inl (looks.stays s earlier n taken plain k))
     go (inr (inr k)) =
-        comes k.0 k.1 (comes_next s.before s.told s.order a k.0 small was.running k.1 taken.due taken.given whole was.alone
-        (subst IsWhole taken.after after) (λ c r last. was.unreserving k.0 k.1 c r last) k.2)
+        comes k.0 k.1 (comes_next s.before s.told s.order a k.0 small was.running k.1 taken.due taken.given whole was.alone (subst IsWhole taken.after after)
+        (λ c r last. was.unreserving k.0 k.1 c r last) k.2)
 
   watched_more : (s : Step) (earlier : List Step) (n : Machine) → IsTaken s n → IsPlain (stage_told s) → Q s → IsWhole s.before → IsWhole n
       → Watched L earlier s.before a → Watched L (s ∷ earlier) n a
@@ -497,17 +483,16 @@ module _ (Q : Step → Type 0) (L : List Step → Machine → ℕ → Type 0) (a
     running = subst (λ (x : Machine). x.last ≡ None → ⊥) (sym taken.after) (runs_after (machine_told s.before s.told) s.order);
     alone = subst IsAlone (sym taken.after) (alone_after (machine_told s.before s.told) s.order);
     asked = subst (λ (x : Machine). x.asked ≤ 2) (sym taken.after)
-        (asked_small (course_by (machine_told s.before s.told) s.order).opened (machine_told s.before s.told).asked
-        (told_small s.before s.told was.asked));
-    unreserving = subst (λ (x : Machine). (b : ℕ) → x.course.purpose ≡ Asking b → (c r : ℕ) → x.last ≡ Some (Commit (Reserve c r)) → ⊥) (sym taken.after)
+        (asked_small (course_by (machine_told s.before s.told) s.order).opened (machine_told s.before s.told).asked (told_small s.before s.told was.asked));
+    unreserving =
+        subst (λ (x : Machine). (b : ℕ) → x.course.purpose ≡ Asking b → (c r : ℕ) → x.last ≡ Some (Commit (Reserve c r)) → ⊥) (sym taken.after)
         (unreserving_after s.before s.told s.order was.running taken.due taken.given whole was.alone);
     seen = seen_more s earlier n taken plain supposed whole after was;
   }
 
   watched_first : (s : Step) (n : Machine) → IsSurveyed s → IsTaken s n → Watched L (s ∷ []) n a
   watched_first s n begins taken =
-      subst (λ (x : Machine). Watched L (s ∷ []) x a) (sym taken.after)
-      (from s.before s.told begins.1.0 begins.1.1 begins.1.2 begins.0 taken.given) where
+      subst (λ (x : Machine). Watched L (s ∷ []) x a) (sym taken.after) (from s.before s.told begins.1.0 begins.1.1 begins.1.2 begins.0 taken.given) where
         from : (m : Machine) (i : Input) (id : ℕ) (k : Kept) → m ≡ at_first id k → i ≡ input.Survey → IsGiven m i s.order
             → Watched L (s ∷ []) (machine_after m i s.order) a
         from m i id k is told given =
@@ -536,8 +521,7 @@ module _ (Q : Step → Type 0) (L : List Step → Machine → ℕ → Type 0) (a
                 by (inr (inr comes)) = inr (inr comes)
 
   pub watched : (steps : List Step) (n : Machine) → IsCourse steps n → BeginsBySurvey steps → ArePlain steps → AllByRecursion Q steps → AreWhole steps
-      → IsWhole n
-      → Watched L steps n a
+      → IsWhole n → Watched L steps n a
   watched [] n course begins plain supposed are whole = elim begins [ ]
   watched (s ∷ []) n course begins plain supposed are whole = watched_first s n begins course.1
   watched (s ∷ (r ∷ earlier)) n course begins plain supposed are whole =

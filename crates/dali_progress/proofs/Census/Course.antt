@@ -36,15 +36,13 @@ any_left u t surveys =
     (of_purpose_most u (machine_ordered t (Put FIRST f)).asked (next_course t).purpose (stage_of [])) (begins_moves t (stage_of t.trace) surveys))
     (λ f running. by (machine_ordered t (Put LATER f)) (course_on t (stage_of t.trace)) refl
     (of_purpose_most u (machine_ordered t (Put LATER f)).asked (course_on t (stage_of t.trace)).purpose (stage_of t.trace))
-    (on_moves t (stage_of t.trace) surveys))
-    (λ x. same (machine_ordered t (Commit x)) refl (omega arith)) (λ e. same (machine_ordered t (Done e)) refl (omega arith))
-    (λ w. same (machine_ordered t (Halt w)) refl (omega arith)) where
+    (on_moves t (stage_of t.trace) surveys)) (λ x. same (machine_ordered t (Commit x)) refl (omega arith))
+    (λ e. same (machine_ordered t (Done e)) refl (omega arith)) (λ w. same (machine_ordered t (Halt w)) refl (omega arith)) where
       same : (n : Machine) → n.course ≡ t.course → of_last u n n.last ≤ u + 2 → Leaves u t n (beyond u t.course.from + (u + 2))
       same n is most =
           still_left u t n (beyond u t.course.from + (u + 2)) is (rw (same_left u t n is surveys) (omega (arith, most)))
 
-      by : (n : Machine) (d : Course) → n.course ≡ d → of_last u n n.last ≤ u + 2 → StaysOrMoves t.course d
-          → Leaves u t n (beyond u t.course.from + (u + 2))
+      by : (n : Machine) (d : Course) → n.course ≡ d → of_last u n n.last ≤ u + 2 → StaysOrMoves t.course d → Leaves u t n (beyond u t.course.from + (u + 2))
       by n d is most (inl stays) = same n (is ∙ stays) most
       by n d is most (inr moves) = let fewer = moved_left u t n d is moves in omega (arith, fewer)
 
@@ -53,8 +51,8 @@ pub calm_left : (u : ℕ) (t : Machine) → t.course.way ≡ Surveying → ((k j
     → Leaves u t (machine_ordered t o) (beyond u t.course.from)
 calm_left u t surveys calm =
     by_order t (λ o. Leaves u t (machine_ordered t o) (beyond u t.course.from))
-    (λ f. by (machine_ordered t (Put FIRST f)) (next_course t) refl
-    (λ is. rw is (calm u (asked_by t.course.opened t.asked) (stage_of []))) (begins_moves t (stage_of t.trace) surveys))
+    (λ f. by (machine_ordered t (Put FIRST f)) (next_course t) refl (λ is. rw is (calm u (asked_by t.course.opened t.asked) (stage_of [])))
+    (begins_moves t (stage_of t.trace) surveys))
     (λ f running. by (machine_ordered t (Put LATER f)) (course_on t (stage_of t.trace)) refl
     (λ is. rw is (calm u (asked_by t.course.opened t.asked) (stage_of t.trace))) (on_moves t (stage_of t.trace) surveys))
     (λ x. same (machine_ordered t (Commit x)) refl refl) (λ e. same (machine_ordered t (Done e)) refl refl)
@@ -62,8 +60,7 @@ calm_left u t surveys calm =
       same : (n : Machine) → n.course ≡ t.course → of_last u n n.last ≡ 0 → Leaves u t n (beyond u t.course.from)
       same n is none = still_left u t n (beyond u t.course.from) is (rw (same_left u t n is surveys, none) (omega arith))
 
-      by : (n : Machine) (d : Course) → n.course ≡ d → (d ≡ t.course → of_last u n n.last ≡ 0) → StaysOrMoves t.course d
-          → Leaves u t n (beyond u t.course.from)
+      by : (n : Machine) (d : Course) → n.course ≡ d → (d ≡ t.course → of_last u n n.last ≡ 0) → StaysOrMoves t.course d → Leaves u t n (beyond u t.course.from)
       by n d is none (inl stays) = same n (is ∙ stays) (none stays)
       by n d is none (inr moves) = moved_left u t n d is moves
 
@@ -151,13 +148,12 @@ IsCounted u m i = (h : Answer) → i ≡ input.Heard h → (h ≡ Silence) ⊎ (
 -- WHAT A STEP SENDS of a census it makes fewer
 abbrev Counts : ℕ → Machine → Input → Machine → Type 0
 Counts u m i n =
-    was_sent i m.course.purpose + left u n + granted u m.course.tally.askings
-    ≤ left u m + (u + 2) * was_lost i m.course.purpose + granted u n.course.tally.askings
+    was_sent i m.course.purpose + left u n + granted u m.course.tally.askings ≤ left u m +
+    (u + 2) * was_lost i m.course.purpose + granted u n.course.tally.askings
 
 lost_counts : (u : ℕ) (m t : Machine) (i : Input) (o : Order) → t.course ≡ m.course → m.course.way ≡ Surveying
     → ((a : ℕ) → m.course.purpose ≡ Asking a → (was_sent i m.course.purpose ≡ 0) × (was_lost i m.course.purpose ≡ 1))
-    → (Rests m.course.purpose → (was_sent i m.course.purpose ≡ 0) × (was_lost i m.course.purpose ≡ 0)) → IsAllowed t o
-    → Counts u m i (machine_ordered t o)
+    → (Rests m.course.purpose → (was_sent i m.course.purpose ≡ 0) × (was_lost i m.course.purpose ≡ 0)) → IsAllowed t o → Counts u m i (machine_ordered t o)
 lost_counts u m t i o same surveys asks rests may = go (asking_or m.course.purpose) where
   way : t.course.way ≡ Surveying
   way = ap (λ (c : Course). c.way) same ∙ surveys
@@ -279,8 +275,8 @@ first_bounded u s n begins taken =
     }) where
       Few : Machine → Input → Type 0
       Few m i =
-          (was_sent i m.course.purpose + 0) + left u (machine_after m i s.order)
-          ≤ (u + 2) * 64 + (u + 2) * (was_lost i m.course.purpose + 0) + granted u (machine_after m i s.order).course.tally.askings
+          (was_sent i m.course.purpose + 0) + left u (machine_after m i s.order) ≤ (u + 2) * 64 + (u + 2) * (was_lost i m.course.purpose + 0) + granted u
+          (machine_after m i s.order).course.tally.askings
 
       none : (m : ℕ) → m * 0 ≡ 0
       none m = omega arith
@@ -288,8 +284,7 @@ first_bounded u s n begins taken =
       from : (m : Machine) (i : Input) (id : ℕ) (k : Kept) → m ≡ at_first id k → i ≡ input.Survey → IsGiven m i s.order → Few m i
       from m i id k is told given =
           subst (λ (x : Machine). IsGiven x i s.order → Few x i) (sym is)
-          (subst (λ j. IsGiven (at_first id k) j s.order → Few (at_first id k) j) (sym told)
-          (λ g.
+          (subst (λ j. IsGiven (at_first id k) j s.order → Few (at_first id k) j) (sym told) (λ g.
           let fewer = calm_left u (machine_told (at_first id k) input.Survey) refl (λ a b c. refl) s.order g.answered.allowed in
           let most : beyond u 0 ≤ (u + 2) * 64 = beyond_most u 0 in
           let first : granted u 0 ≡ 0 = none ((u + 2) * 64) in

@@ -161,9 +161,8 @@ full_moves t d way askings from = go (asks_again t) refl where
 undrawn_moves : (t : Machine) (d : Course) → d.way ≡ Surveying → d.tally.askings ≡ t.course.tally.askings → d.from ≡ t.course.from
     → Moves t.course (undrawn t d)
 undrawn_moves t d way askings from =
-    either (Moves t.course) (has_open t)
-    (either (Moves t.course) (nat_lt d.tally.draws 3) (quiet way askings from (λ u n s. refl)) (quiet way askings from (λ u n s. refl)))
-    (full_moves t d way askings from)
+    either (Moves t.course) (has_open t) (either (Moves t.course) (nat_lt d.tally.draws 3) (quiet way askings from (λ u n s. refl))
+    (quiet way askings from (λ u n s. refl))) (full_moves t d way askings from)
 
 -- a question of a search, of a hunt or of a roll call was answered
 probed_moves : (t : Machine) (h : Answer) → t.course.way ≡ Surveying → Moves t.course (probed t.course h)
@@ -199,7 +198,8 @@ first_moves t is =
     subst (λ y. Moves t.course (searching_first y t.course)) (sym is) (quiet is refl refl (λ u n s. refl))
 
 ungiven_moves : (t : Machine) → t.course.way ≡ Surveying → Moves t.course (ungiven t t.course.way)
-ungiven_moves t is = subst (λ y. Moves t.course (ungiven t y)) (sym is)
+ungiven_moves t is =
+    subst (λ y. Moves t.course (ungiven t y)) (sym is)
     (either (Moves t.course) (may_draw t) (quiet is refl refl (λ u n s. refl)) (full_moves t t.course is refl refl))
 
 silenced_moves : (t : Machine) → t.course.way ≡ Surveying → Moves t.course (silenced t)

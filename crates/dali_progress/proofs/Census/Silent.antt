@@ -70,8 +70,8 @@ looked_now : (s : Step) (earlier : List Step) (a b p : ℕ) (f : Forward) (h : A
     → s.before.course.purpose ≡ Asking b → b ≡ a → s.before.last ≡ Some (Put p f) → accepts (due_after s.before.last) (input.Heard h) ≡ true
     → IsGiven s.before (input.Heard h) s.order → IsPlain (stage_of (machine_told s.before (input.Heard h)).trace) → IsWhole s.before
     → IsWhole (machine_after s.before (input.Heard h) s.order)
-    → IsLooked (s ∷ earlier) (machine_after s.before (input.Heard h) s.order) a
-    ⊎ (IsEnded (machine_after s.before (input.Heard h) s.order) ⊎ IsToCome (machine_after s.before (input.Heard h) s.order) a)
+    → IsLooked (s ∷ earlier) (machine_after s.before (input.Heard h) s.order) a ⊎
+    (IsEnded (machine_after s.before (input.Heard h) s.order) ⊎ IsToCome (machine_after s.before (input.Heard h) s.order) a)
 looked_now s earlier a b p f h small count is purpose here last due given plain whole after =
     by (came_of s.before (machine_heard s.before (Some f) h) h a b p f count purpose here last hears s.order
     (subst (λ t. IsAllowed t s.order) told given.answered.allowed) (subst (λ t. IsWhole (machine_ordered t s.order)) told after)) where
@@ -81,7 +81,8 @@ looked_now s earlier a b p f h small count is purpose here last due given plain 
       hears : Hearing s.before (machine_heard s.before (Some f) h) b h
       hears = hearing_of s.before h p f b purpose last whole
 
-      by : Third s.before (machine_heard s.before (Some f) h) h a ⊎ ((heard_at (stage_of (machine_heard s.before (Some f) h).trace) h ≡ Some b)
+      by : Third s.before (machine_heard s.before (Some f) h) h a
+          ⊎ ((heard_at (stage_of (machine_heard s.before (Some f) h).trace) h ≡ Some b)
           ⊎ (IsEnded (machine_ordered (machine_heard s.before (Some f) h) s.order) ⊎ IsToCome (machine_ordered (machine_heard s.before (Some f) h) s.order) a))
           → IsLooked (s ∷ earlier) (machine_after s.before (input.Heard h) s.order) a
           ⊎ (IsEnded (machine_after s.before (input.Heard h) s.order) ⊎ IsToCome (machine_after s.before (input.Heard h) s.order) a)

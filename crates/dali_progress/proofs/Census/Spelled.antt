@@ -20,7 +20,8 @@ stays_named s n a r taken was = subst (λ (x : Machine). IsNamed x a r) (sym tak
 told_named : (s : Step) (n : Machine) (a r : ℕ) → IsTaken s n → r < MASK24 → Spells s a r → IsNamed n a r
 told_named s n a r taken drawn tells =
     subst (λ (x : Machine). IsNamed x a r) (sym taken.after)
-    (subst (λ i. accepts (due_after s.before.last) i ≡ true → IsGiven s.before i s.order → stage_of (machine_told s.before i).trace ≡ stage.Spelled a (Some r)
+    (subst (λ i. accepts (due_after s.before.last) i ≡ true → IsGiven s.before i s.order
+    → stage_of (machine_told s.before i).trace ≡ stage.Spelled a (Some r)
     → IsNamed (machine_after s.before i s.order) a r) (sym tells.heard.1)
     (λ due given number. named_by s.before tells.heard.0 s.order a tells.asking.0 r due given tells.asking.1 number drawn)
     taken.due taken.given tells.number)
@@ -63,8 +64,7 @@ spelled_now s earlier a b p v f h byte is purpose here last given whole = by (he
       subst (λ o. IsToCome (machine_ordered (machine_told s.before (input.Heard h)) o) a) (sym (given.followed.sent c turns)) (
         b,
         ap (λ c. c.purpose) (course_stays (machine_told s.before (input.Heard h)) r (stage_is r at)
-            (subst (IsUnasked r) (sym asks) (turn_unasked (Asking b) s.before.course.number r c turn)))
-            ∙ asks,
+            (subst (IsUnasked r) (sym asks) (turn_unasked (Asking b) s.before.course.number r c turn))) ∙ asks,
         inr (here, λ x e. cc),
       )
 

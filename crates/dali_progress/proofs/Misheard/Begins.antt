@@ -66,8 +66,7 @@ abbrev pub Keeps : ℕ → Kept → Shorts → Course → ℕ → Record → Lis
 Keeps g k heard c silent (Reserve a r) gs = KeepsReserved g k heard c silent a r gs
 Keeps g k heard c silent (Enrol b r) gs =
     (KeepsAsked g (with_record k (Enrol b r)) heard c silent gs
-    × (((IsFirst c.tally) × AreTabledBelow c.from (with_record k (Enrol b r)).enrolled gs) ⊎ IsOwn k b r))
-    ⊎ (KeepsPast g k heard c silent gs × IsOwn k b r)
+    × (((IsFirst c.tally) × AreTabledBelow c.from (with_record k (Enrol b r)).enrolled gs) ⊎ IsOwn k b r)) ⊎ (KeepsPast g k heard c silent gs × IsOwn k b r)
 Keeps g k heard c silent (Release a r) gs =
     KeepsAsked g k heard c silent gs × (IsFirst c.tally × AreTabledBelow c.from k.enrolled gs)
 
@@ -121,12 +120,11 @@ untold g _ s k heard c silent gs unasked at = at
 
 pub later_by : (g : ℕ) (t : Machine) (o : Order) (s : Stage) (f : Forward) (gs : List Gear) → MisheardStands true g t gs → o ≡ Put LATER f
     → stage_of t.trace ≡ s → IsUnasked s t.course.purpose → GoesTo g t o gs
-later_by g t o s f gs st is at unasked = subst (λ q. GoesTo g t q gs) (sym is)
-    (subst (λ m. IsNext g m (Put LATER f) gs) (sym (later_leaves t f s at unasked)) (record {
+later_by g t o s f gs st is at unasked =
+    subst (λ q. GoesTo g t q gs) (sym is) (subst (λ m. IsNext g m (Put LATER f) gs) (sym (later_leaves t f s at unasked)) (record {
       calm = st.calm;
       trace = st.trace;
-      at = untold g t.course.purpose (stage_of t.trace) t.kept t.heard t.course t.silent gs
-          (subst (λ q. IsUnasked q t.course.purpose) (sym at) unasked) st.at;
+      at = untold g t.course.purpose (stage_of t.trace) t.kept t.heard t.course t.silent gs (subst (λ q. IsUnasked q t.course.purpose) (sym at) unasked) st.at;
       known = st.known;
     }))
 
@@ -186,22 +184,15 @@ pub asks_or_calls : (g : ℕ) (t : Machine) (o : Order) (c : Course) (f : ℕ) (
 asks_or_calls g t o c f gs calm is same way unopened counted few clear census one holds =
     go (next_asked t.kept f) same (asked_later t.kept (64 - f) f) (asked_before t.kept (64 - f) f) (asked_within t.kept (64 - f) f) where
       go : (next : Option ℕ) → next_course t ≡ ask_or_call c next → (next ≡ None → (d : ℕ) → f ≤ d → d < f + (64 - f) → is_asked t.kept d ≡ false)
-          → ((d : ℕ) → next ≡ Some d → (e : ℕ) → f ≤ e → e < d → is_asked t.kept e ≡ false)
-          → ((d : ℕ) → next ≡ Some d → (f ≤ d) × (d < f + (64 - f))) → GoesTo g t o gs
+          → ((d : ℕ) → next ≡ Some d → (e : ℕ) → f ≤ e → e < d → is_asked t.kept e ≡ false) → ((d : ℕ) → next ≡ Some d → (f ≤ d) × (d < f + (64 - f)))
+          → GoesTo g t o gs
       go None next none before within =
-          first_by g t o (calling_first c) gs calm is next way
-          (record {
-            opened_is = refl;
-            counted = counted;
-            roll = roll_first gs;
-          })
+          first_by g t o (calling_first c) gs calm is next way (record { opened_is = refl; counted = counted; roll = roll_first gs })
           (called_known g c.tally t.kept t.heard gs clear
           (census_on f 64 c.tally t.kept t.heard gs one holds (λ d past under. none refl d past (omega (arith, under, few))) census))
       go (Some a) next none before within =
           let high : a < f + (64 - f) = (within a refl).1 in
-          first_by g t o (asking c a) gs calm is next way
-          (record { unopened = unopened; counted = counted })
-          (record {
+          first_by g t o (asking c a) gs calm is next way (record { unopened = unopened; counted = counted }) (record {
             ask = record { small = omega (arith, high, few); asked = tt; clear = clear };
             from_is = refl;
             census = census_on f a c.tally t.kept t.heard gs one holds (λ d past under. before a refl d past under) census;
@@ -216,8 +207,8 @@ asks_on g t o gs calm is next v one holds =
 
 -- the block is full: short addresses are asked again, or the close comes
 pub fills : (g : ℕ) (t : Machine) (o : Order) (c : Course) (gs : List Gear) → Calm g t gs → o ≡ beginning (next_course t) → next_course t ≡ full t c
-    → c.way ≡ Surveying → IsCounted g c.tally t.silent 0 gs → AreSeen t.kept t.heard gs → AreTaken t.kept t.heard → OneShort gs
-    → IsTrue t.kept.enrolled gs → GoesTo g t o gs
+    → c.way ≡ Surveying → IsCounted g c.tally t.silent 0 gs → AreSeen t.kept t.heard gs → AreTaken t.kept t.heard → OneShort gs → IsTrue t.kept.enrolled gs
+    → GoesTo g t o gs
 fills g t o c gs calm is next way counted known filled one holds = go (asks_again t) refl where
   go : (b : Bool) → asks_again t ≡ b → GoesTo g t o gs
   go true again =
@@ -243,11 +234,9 @@ bare_opened g gs all k there on other enabled = woken_short (gear_of gs k) (all 
 
 pub hunts_first : (g : ℕ) (t : Machine) (o : Order) (cs : Course) (gs : List Gear) → Calm g t gs → o ≡ beginning (next_course t)
     → next_course t ≡ hunting_first cs → cs.way ≡ Surveying → cs.opened ≡ true → IsCounted g cs.tally t.silent 0 gs
-    → cs.tally.passed.count ≤ cs.tally.calls + cs.tally.draws → AreLow gs → Each gs (λ k y. OpenedBy y) → AreSeen t.kept t.heard gs
-    → GoesTo g t o gs
+    → cs.tally.passed.count ≤ cs.tally.calls + cs.tally.draws → AreLow gs → Each gs (λ k y. OpenedBy y) → AreSeen t.kept t.heard gs → GoesTo g t o gs
 hunts_first g t o cs gs calm is next way opened counted few low all known =
-    first_by g t o (hunting_first cs) gs calm is next way
-    (record {
+    first_by g t o (hunting_first cs) gs calm is next way (record {
       opened_is = opened;
       counted = counted;
       few = λ wanted_is. few;
@@ -267,12 +256,11 @@ hunts_first g t o cs gs calm is next way opened counted few low all known =
 -- above who was found
 pub hunts_above : (g : ℕ) (t : Machine) (o : Order) (cs : Course) (v : ℕ) (gs : List Gear) → Calm g t gs → o ≡ beginning (next_course t)
     → next_course t ≡ hunting_above cs → cs.way ≡ Surveying → cs.opened ≡ true → IsCounted g cs.tally t.silent 0 gs
-    → (is_wanted (gear_of gs g) ≡ true → cs.tally.passed.count ≤ cs.tally.calls + cs.tally.draws) → AreLow gs → AreSought g 1 gs → AreBare g gs
-    → v < MASK24 → IsPast cs.ascent v gs → AreSeen t.kept t.heard gs → GoesTo g t o gs
+    → (is_wanted (gear_of gs g) ≡ true → cs.tally.passed.count ≤ cs.tally.calls + cs.tally.draws) → AreLow gs → AreSought g 1 gs → AreBare g gs → v < MASK24
+    → IsPast cs.ascent v gs → AreSeen t.kept t.heard gs → GoesTo g t o gs
 hunts_above g t o cs v gs calm is next way opened counted few low sought_are bare drawn past known =
     first_by g t o (hunting (record cs { ascent = above cs.ascent v })) gs calm is
-    (next ∙ ap (λ q. hunting (record cs { ascent = gone_on_from q cs.ascent })) past.reached) way
-    (record {
+    (next ∙ ap (λ q. hunting (record cs { ascent = gone_on_from q cs.ascent })) past.reached) way (record {
       opened_is = opened;
       counted = counted;
       few = few;
@@ -294,8 +282,7 @@ pub hunts_on : (g : ℕ) (t : Machine) (o : Order) (gs : List Gear) → Calm g t
     → KeepsPast g t.kept t.heard t.course t.silent gs → GoesTo g t o gs
 hunts_on g t o gs calm is next (v, known) =
     hunts_above g t o (record t.course { tally = served t.course.tally }) v.visited gs calm is
-    (next ∙ ap (λ b. going_on t.kept b t.course) v.opened_is ∙ ap (λ y. searching_on y t.course) calm.way) calm.way v.opened_is
-    (record {
+    (next ∙ ap (λ b. going_on t.kept b t.course) v.opened_is ∙ ap (λ y. searching_on y t.course) calm.way) calm.way v.opened_is (record {
       calls = omega arith;
       draws = v.counted.draws;
       passed = omega arith;

@@ -13,15 +13,14 @@ use Rattle.dali_progress.proofs.{Stands.HaveShort, Survey.Drawn.DrewApart}
 abbrev pub Each : List Gear → (ℕ → Gear → Type 0) → Type 0
 Each gs P = (k : ℕ) → k < length gs → (gear_of gs k).powered ≡ true → P k (gear_of gs k)
 
-pub each_after : (c : Command) (P Q : ℕ → Gear → Type 0) → ((k : ℕ) (y : Gear) (x : ℕ) → P k y → Q k (gear_taken c x y)) → (gs : List Gear)
-    (numbers : List ℕ) → Each gs P → Each (row_after Everyone c 0 gs numbers) Q
+pub each_after : (c : Command) (P Q : ℕ → Gear → Type 0) → ((k : ℕ) (y : Gear) (x : ℕ) → P k y → Q k (gear_taken c x y)) → (gs : List Gear) (numbers : List ℕ)
+    → Each gs P → Each (row_after Everyone c 0 gs numbers) Q
 each_after c P Q step gs numbers all k in_row on =
     let there : k < length gs = subst (λ n. k < n) (row_length Everyone c 0 gs numbers) in_row in
     after_at c (λ g h. (g.powered ≡ true → P k g) → h.powered ≡ true → Q k h) (λ g off was up. absurd (off up))
     (λ g x up was still. step k g x (was up)) gs numbers k there (all k there) on
 
-pub each_core : (P Q : ℕ → Gear → Type 0) → ((k : ℕ) (y z : Gear) → SameGear y z → P k y → Q k z) → (gs hs : List Gear) → SameCore gs hs
-    → Each gs P → Each hs Q
+pub each_core : (P Q : ℕ → Gear → Type 0) → ((k : ℕ) (y z : Gear) → SameGear y z → P k y → Q k z) → (gs hs : List Gear) → SameCore gs hs → Each gs P → Each hs Q
 each_core P Q step gs hs same all k in_row on =
     let there : k < length gs = subst (λ n. k < n) same.same_length in_row in
     let one = same.each k there in
@@ -80,8 +79,7 @@ HasOne v a gs =
 
 pub sought_core : (g found : ℕ) (gs hs : List Gear) → SameCore gs hs → AreSought g found gs → AreSought g found hs
 sought_core g found =
-    each_core (IsSought g found) (IsSought g found)
-    (λ k y z same was but none small. same.same_state
+    each_core (IsSought g found) (IsSought g found) (λ k y z same was but none small. same.same_state
     ∙ was but (sym same.same_short ∙ none) (subst (λ n. n < MASK24) same.same_random small))
 
 pub bare_core : (g : ℕ) (gs hs : List Gear) → SameCore gs hs → AreBare g gs → AreBare g hs
@@ -90,8 +88,8 @@ bare_core g =
 
 pub bare_but_core : (g v : ℕ) (gs hs : List Gear) → SameCore gs hs → AreBareBut g v gs → AreBareBut g v hs
 bare_but_core g v =
-    each_core (IsBareBut g v) (IsBareBut g v)
-    (λ k y z same was other enabled apart. same.same_short ∙ was other (sym same.same_state ∙ enabled) (λ e. apart (same.same_random ∙ e)))
+    each_core (IsBareBut g v) (IsBareBut g v) (λ k y z same was other enabled apart. same.same_short
+    ∙ was other (sym same.same_state ∙ enabled) (λ e. apart (same.same_random ∙ e)))
 
 pub drawn_core : (gs hs : List Gear) → SameCore gs hs → HaveDrawn gs → HaveDrawn hs
 drawn_core =
@@ -126,8 +124,7 @@ pub sought_programmed : (g found : ℕ) (gs : List Gear) (numbers : List ℕ) (r
 sought_programmed g found gs numbers r a seek all k in_row on but none small =
     let there : k < length gs = subst (λ n. k < n) (row_length Everyone (Program (Some a)) 0 gs numbers) in_row in
     let p = programs_at gs numbers r a seek k there in
-    p.same_state
-    ∙ all k there (sym p.same_powered ∙ on) but (bare_before gs numbers r a seek k there none) (subst (λ n. n < MASK24) p.same_random small)
+    p.same_state ∙ all k there (sym p.same_powered ∙ on) but (bare_before gs numbers r a seek k there none) (subst (λ n. n < MASK24) p.same_random small)
 
 pub bare_programmed : (g : ℕ) (gs : List Gear) (numbers : List ℕ) (r : SearchAddress) (a : ℕ) → Seek gs r → AreBare g gs
     → AreBareBut g (value_of r) (after_program a gs numbers)
@@ -172,8 +169,7 @@ known_programmed reserved enrolled gs numbers r a seek has all k in_row on b sma
           inr (subst (λ n. Has reserved (n, (gear_of (after_program a gs numbers) k).random)) (some_same a b (sym given))
           (subst (λ n. Has reserved (a, n)) (sym (p.same_random ∙ random)) has))
       go true active false other =
-          before (p.others (λ on active random.
-          (let never : true ≡ false = sym (number_same (gear_of gs k).random (value_of r) random) ∙ other in cc)))
+          before (p.others (λ on active random. (let never : true ≡ false = sym (number_same (gear_of gs k).random (value_of r) random) ∙ other in cc)))
       go false resting d same = before (p.others (λ on active random. (let never : true ≡ false = sym active ∙ resting in cc)))
 
 -- gear that draw have no short address
@@ -181,19 +177,18 @@ known_drawn : (reserved enrolled : List Assignment) (gs : List Gear) (numbers : 
     → Each gs (λ k y. (a : ℕ) → y.short ≡ Some a → draws_a_number Randomise y ≡ false) → AreKnown reserved enrolled gs
     → AreKnown reserved enrolled (row_after Everyone Randomise 0 gs numbers)
 known_drawn reserved enrolled gs numbers still all =
-    each_after Randomise (λ k y. ((a : ℕ) → y.short ≡ Some a → draws_a_number Randomise y ≡ false) × IsKnown reserved enrolled k y)
-    (IsKnown reserved enrolled) (λ k y x was a small short drew.
-    (let same : (gear_taken Randomise x y).random ≡ y.random = ap (λ b. if b then x else y.random) (was.0 a short) in
+    each_after Randomise (λ k y. ((a : ℕ) → y.short ≡ Some a → draws_a_number Randomise y ≡ false) × IsKnown reserved enrolled k y) (IsKnown reserved enrolled)
+    (λ k y x was a small short drew. (let same : (gear_taken Randomise x y).random ≡ y.random = ap (λ b. if b then x else y.random) (was.0 a short) in
     subst (λ n. Has enrolled (a, n) ⊎ Has reserved (a, n)) (sym same) (was.1 a small short (subst (λ n. n < MASK24) same drew))))
     gs numbers (λ k there on. (still k there on, all k there on))
 
-pub known_once : (reserved enrolled : List Assignment) (gs : List Gear) (numbers : List ℕ) → AreOpening stage.Initialised gs
-    → AreKnown reserved enrolled gs → AreKnown reserved enrolled (row_after Everyone Randomise 0 gs numbers)
+pub known_once : (reserved enrolled : List Assignment) (gs : List Gear) (numbers : List ℕ) → AreOpening stage.Initialised gs → AreKnown reserved enrolled gs
+    → AreKnown reserved enrolled (row_after Everyone Randomise 0 gs numbers)
 known_once reserved enrolled gs numbers all =
     known_drawn reserved enrolled gs numbers (λ k there on a short. (let half = (all k there on).0 in rw half refl))
 
-pub known_twice : (reserved enrolled : List Assignment) (gs : List Gear) (numbers : List ℕ) → AreOpening stage.RandomisedOnce gs
-    → AreKnown reserved enrolled gs → AreKnown reserved enrolled (row_after Everyone Randomise 0 gs numbers)
+pub known_twice : (reserved enrolled : List Assignment) (gs : List Gear) (numbers : List ℕ) → AreOpening stage.RandomisedOnce gs → AreKnown reserved enrolled gs
+    → AreKnown reserved enrolled (row_after Everyone Randomise 0 gs numbers)
 known_twice reserved enrolled gs numbers all =
     known_drawn reserved enrolled gs numbers (λ k there on a short. still (gear_of gs k) ((all k there on).1.1 a short)) where
       still : (y : Gear) → y.state ≡ Disabled → draws_a_number Randomise y ≡ false
@@ -232,14 +227,13 @@ own_named g v gs apart in_row small is k there on other enabled random =
 
 pub own_bare : (g v : ℕ) (gs : List Gear) → DrewApart gs → g < length gs → v < MASK24 → (gear_of gs g).random ≡ v → AreBareBut g v gs → AreBare g gs
 own_bare g v gs apart in_row small is all k there on other enabled =
-    all k there on other enabled
-    (λ random. other (apart k g there in_row (subst (λ n. n < MASK24) (sym random) small) (random ∙ sym is)))
+    all k there on other enabled (λ random. other (apart k g there in_row (subst (λ n. n < MASK24) (sym random) small) (random ∙ sym is)))
 
 pub bare_weaker : (g v : ℕ) (gs : List Gear) → AreBare g gs → AreBareBut g v gs
 bare_weaker g v gs all k there on other enabled apart = all k there on other enabled
 
-pub sought_withdrawn : (g found : ℕ) (gs : List Gear) (numbers : List ℕ) (r : SearchAddress) → Seek gs r → AreNamedBut g (value_of r) gs
-    → AreSought g found gs → AreSought g 1 (after_withdraw gs numbers)
+pub sought_withdrawn : (g found : ℕ) (gs : List Gear) (numbers : List ℕ) (r : SearchAddress) → Seek gs r → AreNamedBut g (value_of r) gs → AreSought g found gs
+    → AreSought g 1 (after_withdraw gs numbers)
 sought_withdrawn g found gs numbers r seek named all k in_row on but none small =
     let there : k < length gs = subst (λ n. k < n) (row_length Everyone Withdraw 0 gs numbers) in_row in
     let w = withdraws_at gs numbers r seek k there in
@@ -278,21 +272,18 @@ drawn_withdrawn gs numbers = each_after Withdraw HasDrawn HasDrawn (λ k y x was
 pub random_core : (gs hs : List Gear) (k : ℕ) → SameCore gs hs → k < length gs → (gear_of hs k).random ≡ (gear_of gs k).random
 random_core gs hs k same there = (same.each k there).same_random
 
-pub random_programmed : (gs : List Gear) (numbers : List ℕ) (a k : ℕ) → k < length gs
-    → (gear_of (after_program a gs numbers) k).random ≡ (gear_of gs k).random
+pub random_programmed : (gs : List Gear) (numbers : List ℕ) (a k : ℕ) → k < length gs → (gear_of (after_program a gs numbers) k).random ≡ (gear_of gs k).random
 random_programmed gs numbers a k there =
     after_at (Program (Some a)) (λ y z. z.random ≡ y.random) (λ y off. refl) (λ y x on. refl) gs numbers k there
 
-pub random_withdrawn : (gs : List Gear) (numbers : List ℕ) (k : ℕ) → k < length gs
-    → (gear_of (after_withdraw gs numbers) k).random ≡ (gear_of gs k).random
+pub random_withdrawn : (gs : List Gear) (numbers : List ℕ) (k : ℕ) → k < length gs → (gear_of (after_withdraw gs numbers) k).random ≡ (gear_of gs k).random
 random_withdrawn gs numbers k there = after_at Withdraw (λ y z. z.random ≡ y.random) (λ y off. refl) (λ y x on. refl) gs numbers k there
 
 -- ---------------------------------------------------------------- QUERY SHORT ADDRESS
 
 -- the one gear that has the number answers
-pub query_is : (gs : List Gear) (r : SearchAddress) (k : ℕ) → Seek gs r → DrewApart gs → value_of r < MASK24 → k < length gs
-    → is_wanted (gear_of gs k) ≡ true → (gear_of gs k).random ≡ value_of r
-    → heard_of (answers_of Everyone QueryShort 0 gs) ≡ Byte (program_data (gear_of gs k).short)
+pub query_is : (gs : List Gear) (r : SearchAddress) (k : ℕ) → Seek gs r → DrewApart gs → value_of r < MASK24 → k < length gs → is_wanted (gear_of gs k) ≡ true
+    → (gear_of gs k).random ≡ value_of r → heard_of (answers_of Everyone QueryShort 0 gs) ≡ Byte (program_data (gear_of gs k).short)
 query_is gs r k seek apart small there wanted random =
     ap heard_of (one_answers QueryShort 0 gs k (program_data (gear_of gs k).short) there
     (queried_short (gear_of gs k) on active (random_found (gear_of gs k) r (seek k there on active) random))
@@ -312,8 +303,7 @@ who_answers gs r k seek there some = go (gear_of gs k).powered (is_active (gear_
   none : ((gear_of gs k).powered ≡ true → is_active (gear_of gs k).state ≡ true → is_found (gear_of gs k) ≡ true → ⊥) → ⊥
   none other = let never : false ≡ true = sym (ap is_some (queried_none (gear_of gs k) other)) ∙ some in cc
 
-  go : (a b c : Bool) → (gear_of gs k).powered ≡ a → is_active (gear_of gs k).state ≡ b → is_found (gear_of gs k) ≡ c
-      → (gear_of gs k).random ≡ value_of r
+  go : (a b c : Bool) → (gear_of gs k).powered ≡ a → is_active (gear_of gs k).state ≡ b → is_found (gear_of gs k) ≡ c → (gear_of gs k).random ≡ value_of r
   go true true true on active found = found_random (gear_of gs k) r (seek k there on active) found
   go false b c on active found = absurd (none (λ up awake is. (let never : true ≡ false = sym up ∙ on in cc)))
   go true false c on active found = absurd (none (λ up awake is. (let never : true ≡ false = sym awake ∙ active in cc)))

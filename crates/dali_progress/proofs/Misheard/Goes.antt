@@ -25,12 +25,10 @@ use Rattle.dali_progress.proofs.{Survey.Queried.{OneShort, IsTrue, IsAtHand}, Su
 -- ---------------------------------------------------------------- a record was kept
 
 committed : (g : ℕ) (m : Machine) (x : Record) (o : Order) (gs : List Gear) → Calm g m gs → Keeps g m.kept m.heard m.course m.silent x gs → m.trace ≡ []
-    → m.last ≡ Some (Commit x) → IsGivenBy (with_kept m x) o → OneShort gs → IsTrue (with_kept m x).kept.enrolled gs
-    → GoesTo g (with_kept m x) o gs
+    → m.last ≡ Some (Commit x) → IsGivenBy (with_kept m x) o → OneShort gs → IsTrue (with_kept m x).kept.enrolled gs → GoesTo g (with_kept m x) o gs
 committed g m (Reserve a r) o gs calm v free last by one holds =
-    first_by g (with_kept m (Reserve a r)) o (visiting m.course r) gs calm
-    (reserved_begins m a r o calm.untried free last by) (rest_next m (Reserve a r) free last) calm.way
-    (record {
+    first_by g (with_kept m (Reserve a r)) o (visiting m.course r) gs calm (reserved_begins m a r o calm.untried free last by)
+    (rest_next m (Reserve a r) free last) calm.way (record {
       opened_is = v.opened_is;
       counted = v.counted;
       few = v.few;
@@ -44,8 +42,7 @@ committed g m (Reserve a r) o gs calm v free last by one holds =
       v.clear,
     )
 committed g m (Enrol b r) o gs calm (inr past) free last by one holds =
-    hunts_on g (with_kept m (Enrol b r)) o gs calm
-    (given.enrolled (with_kept m (Enrol b r)) o b r by last free past.1) (rest_next m (Enrol b r) free last) (
+    hunts_on g (with_kept m (Enrol b r)) o gs calm (given.enrolled (with_kept m (Enrol b r)) o b r by last free past.1) (rest_next m (Enrol b r) free last) (
       past.0.0,
       (
         gear.known_more m.kept.reserved m.kept.enrolled m.kept.reserved (m.kept.enrolled ++ (b, r) ∷ []) gs (λ x has. has)
@@ -59,28 +56,23 @@ committed g m (Enrol b r) o gs calm (inl asked) free last by one holds = go o by
       asks_on g (with_kept m (Enrol b r)) q gs calm (given.enrolled (with_kept m (Enrol b r)) q b r by last free own)
       (rest_next m (Enrol b r) free last) asked.0 one holds
 
-  go : (q : Order) → IsGivenBy (with_kept m (Enrol b r)) q → AfterEnrolled (with_kept m (Enrol b r)) b r q
-      → GoesTo g (with_kept m (Enrol b r)) q gs
+  go : (q : Order) → IsGivenBy (with_kept m (Enrol b r)) q → AfterEnrolled (with_kept m (Enrol b r)) b r q → GoesTo g (with_kept m (Enrol b r)) q gs
   go (Put p f) by own = goes (Put p f) by own
   go (Commit x) by (a, has, is) = released asked.1 where
     released : ((m.course.tally.passed.count ≡ 0) × AreTabledBelow m.course.from (m.kept.enrolled ++ (b, r) ∷ []) gs) ⊎ IsOwn m.kept b r
         → GoesTo g (with_kept m (Enrol b r)) (Commit x) gs
     released (inl first) =
-        subst (λ y. GoesTo g (with_kept m (Enrol b r)) (Commit y) gs) (sym is)
-        (calm, (asked.0, first))
+        subst (λ y. GoesTo g (with_kept m (Enrol b r)) (Commit y) gs) (sym is) (calm, (asked.0, first))
     released (inr own) = goes (Commit x) by own
   go (Done e) by never = absurd never
   go (Halt why) by never = absurd never
 committed g m (Release a r) o gs calm v free last by one holds =
-    asks_on g (with_kept m (Release a r)) o gs calm
-    (given.begins_free (with_kept m (Release a r)) o by free (no_enrolment_now a r m.last last) (never_eight m.tries calm.untried))
-    (rest_next m (Release a r) free last)
-    (record {
+    asks_on g (with_kept m (Release a r)) o gs calm (given.begins_free (with_kept m (Release a r)) o by free (no_enrolment_now a r m.last last)
+    (never_eight m.tries calm.untried)) (rest_next m (Release a r) free last) (record {
       unopened = v.0.unopened;
       counted = v.0.counted;
       small = v.0.small;
-      clear = λ b q has. v.0.clear b q
-          (without_has (a, r) m.kept.reserved (b, q) has);
+      clear = λ b q has. v.0.clear b q (without_has (a, r) m.kept.reserved (b, q) has);
       census = inl v.1;
     }) one holds
 
@@ -109,13 +101,12 @@ Holds g m last told gs = HoldsBy (IsUnbegun g) (λ n p f h gs. Hears g n f h gs)
 
 -- ---------------------------------------------------------------- the controller acts
 
-first_acts : (g : ℕ) (m : Machine) (o : Order) (gs : List Gear) → m.last ≡ None → IsGivenBy (machine_surveying m) o → OneShort gs
-    → IsTrue m.kept.enrolled gs → IsUnbegun g m gs → GoesTo g (machine_surveying m) o gs
+first_acts : (g : ℕ) (m : Machine) (o : Order) (gs : List Gear) → m.last ≡ None → IsGivenBy (machine_surveying m) o → OneShort gs → IsTrue m.kept.enrolled gs
+    → IsUnbegun g m gs → GoesTo g (machine_surveying m) o gs
 first_acts g m o gs last by one holds v =
     asks_on g (machine_surveying m) o gs (record { there = v.there; untried = v.tries; way = refl })
     (given.begins_free (machine_surveying m) o by v.free (no_enrolment_yet m.last last) (never_eight m.tries v.tries))
-    (ap (begins_at (machine_surveying m)) at ∙ ap (at_rest (machine_surveying m)) last)
-    (record {
+    (ap (begins_at (machine_surveying m)) at ∙ ap (at_rest (machine_surveying m)) last) (record {
       unopened = v.unopened;
       counted = record {
         calls = omega arith;
@@ -150,11 +141,10 @@ stands_heard g m f h gs numbers st lawful sent known = record {
     way = st.calm.way;
   };
   trace = subst (λ s. IsTrace s (m.trace ++ entry f h ∷ [])) (sym more) (trace_more (stage_of m.trace) m.trace f h lawful st.trace);
-  at = subst (λ s. At true g m.course.purpose s m.kept
-      (heard_after m.course.purpose s h m.heard) m.course (silent_after s m.course.opened m.silent)
+  at = subst (λ s. At true g m.course.purpose s m.kept (heard_after m.course.purpose s h m.heard) m.course (silent_after s m.course.opened m.silent)
       (row_after Everyone (command_of f) 0 gs numbers)) (sym more) sent;
-  known = subst (λ s. KnownAt g m.course.purpose s m.kept (heard_after m.course.purpose s h m.heard) m.course
-      (row_after Everyone (command_of f) 0 gs numbers)) (sym more) known;
+  known = subst (λ s. KnownAt g m.course.purpose s m.kept (heard_after m.course.purpose s h m.heard) m.course (row_after Everyone (command_of f) 0 gs numbers))
+      (sym more) known;
 } where
   more : stage_of (m.trace ++ entry f h ∷ []) ≡ next_stage (stage_of m.trace) (command_of f) h
   more = stage_more m.trace (entry f h)
@@ -173,8 +163,7 @@ misheard_acts g s c i o r good here whole run by = (
   holds_next (IsUnbegun g) (λ n p f h gs. Hears g n f h gs) (Next g) (machine_after m i o) o w.gear (
     acts_from (IsUnbegun g) (λ n p f h gs. Hears g n f h gs) (Next g) true
         (λ j n. IsTrue n.kept.enrolled w.gear × ((b : Answer) → j ≡ input.Heard b → IsUncontradicted n) × IsWhole (machine_ordered n o))
-        (λ l t n. GoesTo g n o w.gear) w s.queue c m i o
-        (λ last given known v. first_acts g m o w.gear last given so.hand.one so.hand.holds v)
+        (λ l t n. GoesTo g n o w.gear) w s.queue c m i o (λ last given known v. first_acts g m o w.gear last given so.hand.one so.hand.holds v)
         (λ p f h is given known hears. turned g (machine_heard m (Some f) h) o w.gear given hears.stands so.hand (known.1 h refl) known.2
         (put_no_enrolment p f m.last is) hears.running)
         (λ x is free given known next. committed g m x o w.gear next.0.0 next.0.1 free is given so.hand.one known.0)
@@ -193,17 +182,16 @@ misheard_acts g s c i o r good here whole run by = (
       (subst KeepsPromiseNow (world_logged s (event.Acted c i o)) (promise_now (site_logged s (event.Acted c i o)) run))
 
 misheard_sends : (g : ℕ) (s : SiteState) (c p : ℕ) (f : Forward) (h : Answer) → (r : Runs g s c) → r.machine.last ≡ Some (Put p f)
-    → (controller_at (world s) c).told ≡ None → Allowed (world s) (event.Sent c f h) → IsHeardBut g (world s).gear (command_of f) h
-    → IsKnown (world s) c f h
-    → IsFound (controller_at (happens (world s) (event.Sent c f h)) c) r.machine
-    × Hears g r.machine f h (row_after Everyone (command_of f) 0 (world s).gear (world s).left)
+    → (controller_at (world s) c).told ≡ None → Allowed (world s) (event.Sent c f h) → IsHeardBut g (world s).gear (command_of f) h → IsKnown (world s) c f h
+    → IsFound (controller_at (happens (world s) (event.Sent c f h)) c) r.machine × Hears g r.machine f h
+    (row_after Everyone (command_of f) 0 (world s).gear (world s).left)
 misheard_sends g s c p f h r last told here heard known = (
   found_sent w s.queue c m p f h r.goes.lone last told lone.1 lone.2 r.goes.known,
   record {
     stands = stands_heard g m f h w.gear w.left holds.0 (lawful_now w c m.trace f h lone.2 here)
         (at_sent g m.course.purpose (stage_of m.trace) m.kept m.heard m.course m.silent w.gear w.left (command_of f) h holds.0.at holds.0.known sends taken
-        hand seeks)
-        (known_sent g m.course.purpose (stage_of m.trace) m.kept m.heard m.course m.silent w.gear w.left (command_of f) h holds.0.at holds.0.known sends taken
+        hand seeks) (known_sent g m.course.purpose (stage_of m.trace) m.kept m.heard m.course m.silent w.gear w.left
+        (command_of f) h holds.0.at holds.0.known sends taken
         hand seeks);
     running = not_free m.trace (entry f h);
   },
@@ -268,15 +256,7 @@ rounds_but g s c (e ∷ es) rounds = (rounds.0, round_but g s c e rounds.1, roun
 starts : (g : ℕ) (s : SiteState) (c : ℕ) → g < length (world s).gear → IsAlone s c → Runs g s c
 starts g s c there a =
     runs_first IsFound (Holds g) s c a (rw a.told refl)
-    (record {
-      there = there;
-      tries = refl;
-      silent = refl;
-      free = refl;
-      unopened = refl;
-      first = refl;
-      unmarked = λ b. ap (λ n. n == 1) (bit_at-zero b);
-    })
+    (record { there = there; tries = refl; silent = refl; free = refl; unopened = refl; first = refl; unmarked = λ b. ap (λ n. n == 1) (bit_at-zero b) })
 
 ends_so : (g : ℕ) (e : End) (m : Machine) (gs : List Gear) → EndsBy g e m.kept m.heard gs → EndsWellBut g e m gs
 ends_so g AllFound m gs well = well
@@ -292,7 +272,6 @@ ends_truly g s c es e there a rounds ended m is =
     (ends_so g e r.machine (world now).gear (ended_at IsFound (Holds g) now c e r ended).0.0)
 
 -- it goes on, and never halts
-pub goes_on : (g : ℕ) (s : SiteState) (c : ℕ) (es : List Event) → g < length (world s).gear → IsAlone s c → RoundsBut g s c es
-    → GoesOn true (site_after s es) c
+pub goes_on : (g : ℕ) (s : SiteState) (c : ℕ) (es : List Event) → g < length (world s).gear → IsAlone s c → RoundsBut g s c es → GoesOn true (site_after s es) c
 goes_on g s c es there a rounds =
     goes_by IsFound (Holds g) true (site_after s es) c (runs_all g s c es (starts g s c there a) rounds) (λ m why holds. holds.0)

@@ -28,8 +28,7 @@ drawn_left d gs numbers leaves =
     each_after d HasDrawn HasDrawn (λ k y x was none. (let same = names_left d y x leaves in
     subst (λ n. n < MASK24) (sym same.2) (was (sym same.1 ∙ none)))) gs numbers
 
-served_left : (g : ℕ) (d : Command) (gs : List Gear) (numbers : List ℕ) → LeavesShort d → AreServedBut g gs
-    → AreServedBut g (row_after Everyone d 0 gs numbers)
+served_left : (g : ℕ) (d : Command) (gs : List Gear) (numbers : List ℕ) → LeavesShort d → AreServedBut g gs → AreServedBut g (row_after Everyone d 0 gs numbers)
 served_left g d gs numbers leaves all k in_row other on = short_left d gs numbers k leaves in_row on (λ there. all k there other)
 
 -- ---------------------------------------------------------------- the roll call
@@ -38,16 +37,17 @@ abbrev pub CalledTo : ℕ → Stage → Course → ℕ → List Gear → List �
 CalledTo g s c silent gs numbers d h =
     Calls g (next_stage s d h) c (silent_after (next_stage s d h) c.opened silent) (row_after Everyone d 0 gs numbers)
 
-roll_of : (g : ℕ) (s : Stage) (k : Kept) (c : Course) (silent : ℕ) (gs : List Gear) (numbers : List ℕ) (d : Command) (h : Answer)
-    → Calls g s c silent gs → Sends k c.number Calling s d → Taken g d gs numbers h → Seeks s gs → RollSent s c.number gs numbers d h
+roll_of : (g : ℕ) (s : Stage) (k : Kept) (c : Course) (silent : ℕ) (gs : List Gear) (numbers : List ℕ) (d : Command) (h : Answer) → Calls g s c silent gs
+    → Sends k c.number Calling s d → Taken g d gs numbers h → Seeks s gs → RollSent s c.number gs numbers d h
 roll_of g s k c silent gs numbers d h v is t seek =
     roll_sent s c.number k gs numbers d h v.roll (sends_of Calling c.number k s d is) (but_taken g d gs numbers h t) seek
 
-calls_sent : (g : ℕ) (s : Stage) (k : Kept) (c : Course) (silent : ℕ) (gs : List Gear) (numbers : List ℕ) (d : Command) (h : Answer)
-    → Calls g s c silent gs → g < length gs → RollSent s c.number gs numbers d h → CalledTo g s c silent gs numbers d h
+calls_sent : (g : ℕ) (s : Stage) (k : Kept) (c : Course) (silent : ℕ) (gs : List Gear) (numbers : List ℕ) (d : Command) (h : Answer) → Calls g s c silent gs
+    → g < length gs → RollSent s c.number gs numbers d h → CalledTo g s c silent gs numbers d h
 calls_sent g s k c silent gs numbers d h v there to = record {
   opened_is = v.opened_is;
-  counted = subst (λ n. IsCounted g c.tally n 0 (row_after Everyone d 0 gs numbers))
+  counted =
+      subst (λ n. IsCounted g c.tally n 0 (row_after Everyone d 0 gs numbers))
       (sym (quiet_roll (next_stage s d h) c.number (row_after Everyone d 0 gs numbers) c.opened silent to.roll))
       (counted_on g c.tally silent 0 gs (row_after Everyone d 0 gs numbers) v.counted (random_left d gs numbers to.leaves g there)
       (drawn_left d gs numbers to.leaves));
@@ -60,13 +60,13 @@ abbrev pub DrawnTo : Purpose → Stage → Course → ℕ → List Gear → List
 DrawnTo p s c silent gs numbers d h =
     Draws p (next_stage s d h) c (silent_after (next_stage s d h) c.opened silent) (row_after Everyone d 0 gs numbers)
 
-draw_of : (g : ℕ) (s : Stage) (k : Kept) (c : Course) (silent : ℕ) (gs : List Gear) (numbers : List ℕ) (d : Command) (h : Answer)
-    → Draws Drawing s c silent gs → Sends k c.number Drawing s d → Taken g d gs numbers h → DrawSent Drawing s c.number gs numbers d h
+draw_of : (g : ℕ) (s : Stage) (k : Kept) (c : Course) (silent : ℕ) (gs : List Gear) (numbers : List ℕ) (d : Command) (h : Answer) → Draws Drawing s c silent gs
+    → Sends k c.number Drawing s d → Taken g d gs numbers h → DrawSent Drawing s c.number gs numbers d h
 draw_of g s k c silent gs numbers d h v is t =
     draw_sent s c.number k gs numbers d h v.draw (sends_of Drawing c.number k s d is) (but_taken g d gs numbers h t)
 
-open_of : (g : ℕ) (s : Stage) (k : Kept) (c : Course) (silent : ℕ) (gs : List Gear) (numbers : List ℕ) (d : Command) (h : Answer)
-    → Draws Opening s c silent gs → Sends k c.number Opening s d → Taken g d gs numbers h → DrawSent Opening s c.number gs numbers d h
+open_of : (g : ℕ) (s : Stage) (k : Kept) (c : Course) (silent : ℕ) (gs : List Gear) (numbers : List ℕ) (d : Command) (h : Answer) → Draws Opening s c silent gs
+    → Sends k c.number Opening s d → Taken g d gs numbers h → DrawSent Opening s c.number gs numbers d h
 open_of g s k c silent gs numbers d h v is t =
     open_sent s c.number k gs numbers d h v.draw (sends_of Opening c.number k s d is) (but_taken g d gs numbers h t)
 
@@ -74,8 +74,9 @@ draws_sent : (p : Purpose) (s : Stage) (c : Course) (silent : ℕ) (gs : List Ge
     → Draws p s c silent gs → DrawSent p s c.number gs numbers d h → DrawnTo p s c silent gs numbers d h
 draws_sent p s c silent gs numbers d h is v to = record {
   opened_is = v.opened_is;
-  counted = subst (λ n. IsCountedFor c.tally n)
-      (sym (quiet_draw p (next_stage s d h) c.number (row_after Everyone d 0 gs numbers) c.opened silent is to.draw)) v.counted;
+  counted =
+      subst (λ n. IsCountedFor c.tally n) (sym (quiet_draw p (next_stage s d h) c.number (row_after Everyone d 0 gs numbers) c.opened silent is to.draw))
+      v.counted;
   draw = to.draw;
 }
 
@@ -108,10 +109,11 @@ asks_sent : (g a : ℕ) (s : Stage) (k : Kept) (heard : Shorts) (c : Course) (si
     → Asks g c (silent_after (next_stage s d h) c.opened silent) (row_after Everyone d 0 gs numbers)
 asks_sent g a s k heard c silent gs numbers d h v there to = record {
   unopened = v.unopened;
-  counted = subst (λ n. IsCounted g c.tally n 0 (row_after Everyone d 0 gs numbers))
+  counted =
+      subst (λ n. IsCounted g c.tally n 0 (row_after Everyone d 0 gs numbers))
       (sym (quiet_asked a (next_stage s d h) (row_after Everyone d 0 gs numbers) c.opened silent to.0.asked))
-      (counted_on g c.tally silent 0 gs (row_after Everyone d 0 gs numbers) v.counted (gear.random_core gs (row_after Everyone d 0 gs numbers) g to.1 there)
-      (gear.drawn_core gs (row_after Everyone d 0 gs numbers) to.1));
+      (counted_on g c.tally silent 0 gs (row_after Everyone d 0 gs numbers) v.counted
+      (gear.random_core gs (row_after Everyone d 0 gs numbers) g to.1 there) (gear.drawn_core gs (row_after Everyone d 0 gs numbers) to.1));
 }
 
 -- ---------------------------------------------------------------- of whatever transaction
@@ -160,10 +162,9 @@ does_by p n s k gs d dry is = go (is_unnamed s) where
 known_after : (k : Kept) (s : Stage) (gs : List Gear) (numbers : List ℕ) (d : Command) → Does k s gs d → Seeks s gs → AreKnown k.reserved k.enrolled gs
     → AreKnown k.reserved k.enrolled (row_after Everyone d 0 gs numbers)
 known_after k s gs numbers d (inl (inl names)) seek known =
-    each_after d (IsKnown k.reserved k.enrolled) (IsKnown k.reserved k.enrolled) (λ i y x was a small short drew.
-    (let same = names_left d y x names in
-    subst (λ n. Has k.enrolled (a, n) ⊎ Has k.reserved (a, n)) (sym same.2)
-    (was a small (sym same.1 ∙ short) (subst (λ n. n < MASK24) same.2 drew)))) gs numbers known
+    each_after d (IsKnown k.reserved k.enrolled) (IsKnown k.reserved k.enrolled) (λ i y x was a small short drew. (let same = names_left d y x names in
+    subst (λ n. Has k.enrolled (a, n) ⊎ Has k.reserved (a, n)) (sym same.2) (was a small (sym same.1 ∙ short) (subst (λ n. n < MASK24) same.2 drew))))
+    gs numbers known
 known_after k s gs numbers d (inl (inr (draws, inl all))) seek known =
     subst (λ e. AreKnown k.reserved k.enrolled (row_after Everyone e 0 gs numbers)) (sym draws) (gear.known_once k.reserved k.enrolled gs numbers all known)
 known_after k s gs numbers d (inl (inr (draws, inr all))) seek known =
@@ -194,11 +195,9 @@ taken_with k heard b small taken a within = by (taken a within) where
 
 -- the gear that told its number is known
 taken_without : (k : Kept) (heard : Shorts) (b n i : ℕ) (gs : List Gear) → ((c : ℕ) → InBlock k.block c → c < 64) → b < 64 → Holds gs i b
-    → (gear_of gs i).random ≡ n → n < MASK24
-    → AreKnown k.reserved k.enrolled gs → AreTaken k heard → AreTaken k (without_short heard b)
+    → (gear_of gs i).random ≡ n → n < MASK24 → AreKnown k.reserved k.enrolled gs → AreTaken k heard → AreTaken k (without_short heard b)
 taken_without k heard b n i gs block small holds random drew known taken a within = by (taken a within) where
-  here : Has k.enrolled (b, n) ⊎ Has k.reserved (b, n)
-      → HasAddress k.reserved b ⊎ (HasAddress k.enrolled b ⊎ (has_short (without_short heard b) b ≡ true))
+  here : Has k.enrolled (b, n) ⊎ Has k.reserved (b, n) → HasAddress k.reserved b ⊎ (HasAddress k.enrolled b ⊎ (has_short (without_short heard b) b ≡ true))
   here (inl has) = inr (inl (has_address k.enrolled b n has))
   here (inr has) = inl (has_address k.reserved b n has)
 
@@ -219,21 +218,18 @@ taken_without k heard b n i gs block small holds random drew known taken a withi
 tabled_core : (f : ℕ) (enrolled : List Assignment) (gs hs : List Gear) → SameCore gs hs → AreTabledBelow f enrolled gs → AreTabledBelow f enrolled hs
 tabled_core f enrolled =
     each_core (IsTabled f enrolled) (IsTabled f enrolled) (λ k y z same was a low short drew.
-    subst (λ n. Has enrolled (a, n)) (sym same.same_random)
-    (was a low (sym same.same_short ∙ short) (subst (λ n. n < MASK24) same.same_random drew)))
+    subst (λ n. Has enrolled (a, n)) (sym same.same_random) (was a low (sym same.same_short ∙ short) (subst (λ n. n < MASK24) same.same_random drew)))
 
 census_core : (f : ℕ) (y : Tally) (k : Kept) (heard : Shorts) (gs hs : List Gear) → SameCore gs hs → IsCensus f y k heard gs → IsCensus f y k heard hs
 census_core f y k heard gs hs same (inl first) = inl (first.0, tabled_core f k.enrolled gs hs same first.1)
 census_core f y k heard gs hs same (inr later) = inr (gear.known_core k.reserved k.enrolled gs hs same later.0, later.1)
 
-census_with : (f b : ℕ) (y : Tally) (k : Kept) (heard : Shorts) (gs : List Gear) → b < 64 → IsCensus f y k heard gs
-    → IsCensus f y k (with_short heard b) gs
+census_with : (f b : ℕ) (y : Tally) (k : Kept) (heard : Shorts) (gs : List Gear) → b < 64 → IsCensus f y k heard gs → IsCensus f y k (with_short heard b) gs
 census_with f b y k heard gs small (inl first) = inl first
 census_with f b y k heard gs small (inr later) = inr (later.0, taken_with k heard b small later.1)
 
 census_told : (f b n i : ℕ) (y : Tally) (k : Kept) (heard : Shorts) (gs : List Gear) → ((c : ℕ) → InBlock k.block c → c < 64) → b < 64 → Holds gs i b
-    → (gear_of gs i).random ≡ n
-    → (n ≡ MASK24) ⊎ (n < MASK24) → IsCensus f y k heard gs
+    → (gear_of gs i).random ≡ n → (n ≡ MASK24) ⊎ (n < MASK24) → IsCensus f y k heard gs
     → IsCensus f y k (if n == MASK24 then with_short heard b else without_short heard b) gs
 census_told f b n i y k heard gs block small holds random numbered (inl first) = inl first
 census_told f b n i y k heard gs block small holds random numbered (inr later) = go (n == MASK24) refl where
@@ -285,8 +281,7 @@ spent_left g y k heard d gs numbers names (inr filled) = inr filled
 
 pub known_sent : (g : ℕ) (p : Purpose) (s : Stage) (k : Kept) (heard : Shorts) (c : Course) (silent : ℕ) (gs : List Gear) (numbers : List ℕ) (d : Command)
     (h : Answer) → At false g p s k heard c silent gs → KnownAt g p s k heard c gs → Sends k c.number p s d → Taken g d gs numbers h → IsAtHand k gs
-    → Seeks s gs
-    → KnownAt g p (next_stage s d h) k (heard_after p (next_stage s d h) h heard) c (row_after Everyone d 0 gs numbers)
+    → Seeks s gs → KnownAt g p (next_stage s d h) k (heard_after p (next_stage s d h) h heard) c (row_after Everyone d 0 gs numbers)
 known_sent g (Asking a) s k heard c silent gs numbers d h at known is t told seek =
     census_sent a s k heard c gs numbers d h known told (asks_of g a s k heard c gs numbers d h known is t told)
 known_sent g Calling s k heard c silent gs numbers d h at known is t told seek =

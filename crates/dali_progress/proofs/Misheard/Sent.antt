@@ -111,18 +111,16 @@ pub own_core : (g v : ℕ) (gs hs : List Gear) → SameCore gs hs → g < length
 own_core g v gs hs same there is = gear.random_core gs hs g same there ∙ is
 
 -- what goes on with a hunt by such a frame
-pub hunts_core : (g : ℕ) (p : Purpose) (s t : Stage) (c : Course) (silent : ℕ) (gs : List Gear) (numbers : List ℕ) (d : Command)
-    → Hunts false g p s c silent gs → failed_at s ≡ 0 → found_at s c.ascent ≡ c.ascent.found → found_at t c.ascent ≡ c.ascent.found
-    → SameCore gs (row_after Everyone d 0 gs numbers) → IsByteLow d → g < length gs
-    → HuntAt true g p t c.ascent c.number (row_after Everyone d 0 gs numbers)
+pub hunts_core : (g : ℕ) (p : Purpose) (s t : Stage) (c : Course) (silent : ℕ) (gs : List Gear) (numbers : List ℕ) (d : Command) → Hunts false g p s c silent gs
+    → failed_at s ≡ 0 → found_at s c.ascent ≡ c.ascent.found → found_at t c.ascent ≡ c.ascent.found → SameCore gs (row_after Everyone d 0 gs numbers)
+    → IsByteLow d → g < length gs → HuntAt true g p t c.ascent c.number (row_after Everyone d 0 gs numbers)
     → Hunts true g p t c (silent_after t c.opened silent) (row_after Everyone d 0 gs numbers)
 hunts_core g p s t c silent gs numbers d v failed was now same byte there at =
-    told_hunts g p t c silent hs v.opened_is
-    (counted_on g c.tally silent 0 gs hs (subst (λ n. IsCounted g c.tally silent n gs) failed v.counted) (gear.random_core gs hs g same there)
-    (gear.drawn_core gs hs same))
+    told_hunts g p t c silent hs v.opened_is (counted_on g c.tally silent 0 gs hs (subst (λ n. IsCounted g c.tally silent n gs) failed v.counted)
+    (gear.random_core gs hs g same there) (gear.drawn_core gs hs same))
     (few_on p g c.tally gs hs (λ is. sym (leaving.core_wanted (gear_of gs g) (gear_of hs g) (same.each g there)) ∙ is) v.few)
-    (low_after d gs numbers byte v.low)
-    (subst (λ n. AreSought g n hs) (sym now) (gear.sought_core g c.ascent.found gs hs same (subst (λ n. AreSought g n gs) was v.sought_are))) at
+    (low_after d gs numbers byte v.low) (subst (λ n. AreSought g n hs) (sym now)
+    (gear.sought_core g c.ascent.found gs hs same (subst (λ n. AreSought g n gs) was v.sought_are))) at
   where
     hs : List Gear
     hs = row_after Everyone d 0 gs numbers
@@ -154,16 +152,15 @@ rises_core g s t x n gs hs v same stage = record {
 
 -- the next question
 question_sent : (g : ℕ) (k : Kept) (r : SearchAddress) (last : Option Answer) (room : ℕ) (c : Course) (silent : ℕ) (gs : List Gear) (numbers : List ℕ)
-    (d : Command) (h : Answer) → Hunts false g Hunting (stage.Hunted r last room) c silent gs
-    → Sends k c.number Hunting (stage.Hunted r last room) d → Taken g d gs numbers h → Seeks (stage.Hunted r last room) gs
-    → HuntedTo g Hunting (stage.Hunted r last room) c silent gs numbers d h
+    (d : Command) (h : Answer) → Hunts false g Hunting (stage.Hunted r last room) c silent gs → Sends k c.number Hunting (stage.Hunted r last room) d
+    → Taken g d gs numbers h → Seeks (stage.Hunted r last room) gs → HuntedTo g Hunting (stage.Hunted r last room) c silent gs numbers d h
 question_sent g k r last room c silent gs numbers d h v is t seek =
     go (subst (λ e. IsByteSent c.number r last room e h) (sym is.0) (byte_sent c.number r last room h (let some = is.1 in omega (arith, some)))) where
       go : IsByteSent c.number r last room d h → HuntedTo g Hunting (stage.Hunted r last room) c silent gs numbers d h
       go (inl b) =
           subst (λ q. Hunts true g Hunting q c (silent_after q c.opened silent) (row_after Everyone d 0 gs numbers)) (sym b.next)
-          (hunts_core g Hunting (stage.Hunted r last room) (stage.Hunted b.number None (room - 1)) c silent gs numbers d v refl refl refl (b.core gs numbers)
-          (byte_low c.number r (low_byte c.number (asked_next c.ascent) v.at.number) d is.0) t.there
+          (hunts_core g Hunting (stage.Hunted r last room) (stage.Hunted b.number None (room - 1)) c silent gs numbers d v refl refl refl
+          (b.core gs numbers) (byte_low c.number r (low_byte c.number (asked_next c.ascent) v.at.number) d is.0) t.there
           (rises_core g (stage.Hunted r last room) (stage.Hunted b.number None (room - 1)) c.ascent c.number gs _ v.at (b.core gs numbers) tt))
         where
           byte_low : (n r : SearchAddress) → n.low < 256 → (e : Command) → e ≡ byte_to_send n r → IsByteLow e
@@ -173,9 +170,11 @@ question_sent g k r last room c silent gs numbers d h v is t seek =
             by true false m = small
             by true true false = tt
             by true true true = tt
-      go (inr b) = subst (λ e. HuntedTo g Hunting (stage.Hunted r last room) c silent gs numbers e h) (sym b.0)
+      go (inr b) =
+          subst (λ e. HuntedTo g Hunting (stage.Hunted r last room) c silent gs numbers e h) (sym b.0)
           (subst (λ q. Hunts true g Hunting q c (silent_after q c.opened silent) (row_after Everyone Compare 0 gs numbers)) (sym b.2)
-          (hunts_core g Hunting (stage.Hunted r last room) (stage.Hunted r (Some h) (room - 1)) c silent gs numbers Compare v refl refl refl same tt t.there
+          (hunts_core g Hunting (stage.Hunted r last room) (stage.Hunted r (Some h) (room - 1))
+          c silent gs numbers Compare v refl refl refl same tt t.there
           (rises_core g (stage.Hunted r last room) (stage.Hunted r (Some h) (room - 1)) c.ascent c.number gs _ v.at same says)))
         where
           same : SameCore gs (row_after Everyone Compare 0 gs numbers)
@@ -191,13 +190,13 @@ question_sent g k r last room c silent gs numbers d h v is t seek =
               (subst (λ (q : SearchAddress). Gives (wants gs) (value_of q) (is_yes h)) b.1 (probe_says gs r h (seek r refl) heard))
 
 pub hunting_sent : (g : ℕ) (s : Stage) (k : Kept) (c : Course) (silent : ℕ) (gs : List Gear) (numbers : List ℕ) (d : Command) (h : Answer)
-    → Hunts false g Hunting s c silent gs → Sends k c.number Hunting s d → Taken g d gs numbers h → Seeks s gs
-    → HuntedTo g Hunting s c silent gs numbers d h
+    → Hunts false g Hunting s c silent gs → Sends k c.number Hunting s d → Taken g d gs numbers h → Seeks s gs → HuntedTo g Hunting s c silent gs numbers d h
 hunting_sent g stage.Free k c silent gs numbers d h v is t seek =
     subst (λ e. HuntedTo g Hunting stage.Free c silent gs numbers e h) (sym is.0)
     (hunts_core g Hunting stage.Free (stage.HighSent c.number.high) c silent gs numbers (SearchHigh c.number.high) v refl refl refl
     (leaving.core_after (SearchHigh c.number.high) gs numbers tt) tt t.there
-    (rises_core g stage.Free (stage.HighSent c.number.high) c.ascent c.number gs _ v.at (leaving.core_after (SearchHigh c.number.high) gs numbers tt) tt))
+    (rises_core g stage.Free (stage.HighSent c.number.high) c.ascent c.number gs _ v.at
+    (leaving.core_after (SearchHigh c.number.high) gs numbers tt) tt))
 hunting_sent g (stage.HighSent high) k c silent gs numbers d h v is t seek =
     subst (λ e. HuntedTo g Hunting (stage.HighSent high) c silent gs numbers e h) (some_is (SearchLow c.number.low) d is.0)
     (hunts_core g Hunting (stage.HighSent high) (stage.LowSent high c.number.low) c silent gs numbers (SearchLow c.number.low) v refl refl refl
@@ -208,8 +207,8 @@ hunting_sent g (stage.LowSent high low) k c silent gs numbers d h v is t seek =
     subst (λ e. HuntedTo g Hunting (stage.LowSent high low) c silent gs numbers e h) (some_is (SearchMiddle c.number.middle) d is.0)
     (hunts_core g Hunting (stage.LowSent high low) (stage.Hunted (record { high = high; middle = c.number.middle; low = low }) None 5) c silent gs numbers
     (SearchMiddle c.number.middle) v refl refl refl (leaving.core_after (SearchMiddle c.number.middle) gs numbers tt) tt t.there
-    (rises_core g (stage.LowSent high low) (stage.Hunted (record { high = high; middle = c.number.middle; low = low }) None 5) c.ascent c.number gs _ v.at
-    (leaving.core_after (SearchMiddle c.number.middle) gs numbers tt) tt))
+    (rises_core g (stage.LowSent high low) (stage.Hunted (record { high = high; middle = c.number.middle; low = low }) None 5)
+    c.ascent c.number gs _ v.at (leaving.core_after (SearchMiddle c.number.middle) gs numbers tt) tt))
 hunting_sent g (stage.Hunted r None room) k c silent gs numbers d h v is t seek = question_sent g k r None room c silent gs numbers d h v is t seek
 hunting_sent g (stage.Hunted r (Some a) room) k c silent gs numbers d h v is t seek = question_sent g k r (Some a) room c silent gs numbers d h v is t seek
 hunting_sent g _ k c silent gs numbers d h v is t seek = absurd v.at.stage_is

@@ -39,8 +39,7 @@ tabled_next f xs ys gs more below here i there on a low short drew = go (nat_lt 
   go false over =
       let past : f ≤ a = grind (arith, nat_tests, over) in
       let same : a ≡ f = omega (arith, past, low) in
-      subst (λ c. Has ys (c, (gear_of gs i).random)) (sym same)
-      (here i (record { there = there; on = on; short = short ∙ ap (λ c. Some c) same }) drew)
+      subst (λ c. Has ys (c, (gear_of gs i).random)) (sym same) (here i (record { there = there; on = on; short = short ∙ ap (λ c. Some c) same }) drew)
 
 -- the next short address is to be asked
 next_asks : (g a : ℕ) (s : Stage) (k : Kept) (heard : Shorts) (c : Course) (silent : ℕ) (gs : List Gear) → Asks g c silent gs → Census a s k heard c gs
@@ -82,8 +81,7 @@ own_by k b n gs kept known one small drew fresh a has =
 
 -- three bytes told a number
 told_turns : (g : ℕ) (t : Machine) (o : Order) (a b n : ℕ) (gs : List Gear) → IsGivenBy t o → MisheardStands true g t gs → IsAtHand t.kept gs
-    → IsUncontradicted t
-    → t.course.purpose ≡ Asking a → stage_of t.trace ≡ stage.Spelled b (Some n) → Asks g t.course t.silent gs
+    → IsUncontradicted t → t.course.purpose ≡ Asking a → stage_of t.trace ≡ stage.Spelled b (Some n) → Asks g t.course t.silent gs
     → Census a (stage.Spelled b (Some n)) t.kept t.heard t.course gs → GoesTo g t o gs
 told_turns g t o a b n gs by st hand agreed purpose is v w = go (nat_lt n MASK24) refl where
   who : ℕ
@@ -101,8 +99,8 @@ told_turns g t o a b n gs by st hand agreed purpose is v w = go (nat_lt n MASK24
   goes : (q : Order) → q ≡ beginning (next_course t)
       → ((i : ℕ) → Holds gs i a → (gear_of gs i).random < MASK24 → Has t.kept.enrolled (a, (gear_of gs i).random)) → GoesTo g t q gs
   goes q begins here =
-      asks_on g t q gs st.calm begins (ap (begins_at t) is)
-      (next_asks g a (stage.Spelled b (Some n)) t.kept t.heard t.course t.silent gs v w w.ask.clear here) hand.one hand.holds
+      asks_on g t q gs st.calm begins (ap (begins_at t) is) (next_asks g a (stage.Spelled b (Some n)) t.kept t.heard t.course t.silent gs v w w.ask.clear here)
+      hand.one hand.holds
 
   sought_is : n < MASK24 → IsSought t.course.purpose t.course.number n
   sought_is small = subst (λ p. IsSought p t.course.number n) (sym purpose) small
@@ -131,8 +129,13 @@ told_turns g t o a b n gs by st hand agreed purpose is v w = go (nat_lt n MASK24
         gear.known_more t.kept.reserved t.kept.enrolled t.kept.reserved (t.kept.enrolled ++ (b, n) ∷ []) gs (λ x has. has) more later.0,
         taken_enrolled t.kept t.heard b n later.1,
       )),
-      inr (own_by t.kept b n gs hand.kept later.0
-          (w.ask.asked.1.0, holds.there, holds.on, subst (λ c. (gear_of gs w.ask.asked.1.0).short ≡ Some c) (sym w.ask.asked.0) holds.short, sym number)
+      inr (own_by t.kept b n gs hand.kept later.0 (
+        w.ask.asked.1.0,
+        holds.there,
+        holds.on,
+        subst (λ c. (gear_of gs w.ask.asked.1.0).short ≡ Some c) (sym w.ask.asked.0) holds.short,
+        sym number,
+      )
           (subst (λ c. c < 64) (sym w.ask.asked.0) w.ask.small) small fresh.0),
     )
 
@@ -156,10 +159,8 @@ told_turns g t o a b n gs by st hand agreed purpose is v w = go (nat_lt n MASK24
       (λ i told drew. absurd (large (subst (λ m. m < MASK24) (same i told) drew)))
 
 pub census_turns : (g : ℕ) (t : Machine) (o : Order) (a : ℕ) (s : Stage) (gs : List Gear) → IsGivenBy t o → MisheardStands true g t gs → IsAtHand t.kept gs
-    → IsUncontradicted t
-    → IsNoEnrolment t.last → t.course.purpose ≡ Asking a → stage_of t.trace ≡ s → (s ≡ stage.Free → ⊥) → Asks g t.course t.silent gs
-    → Census a s t.kept t.heard t.course gs → IsWhole (machine_ordered t o) → turn_of (Asking a) t.course.number s ≡ None
-    → GoesTo g t o gs
+    → IsUncontradicted t → IsNoEnrolment t.last → t.course.purpose ≡ Asking a → stage_of t.trace ≡ s → (s ≡ stage.Free → ⊥) → Asks g t.course t.silent gs
+    → Census a s t.kept t.heard t.course gs → IsWhole (machine_ordered t o) → turn_of (Asking a) t.course.number s ≡ None → GoesTo g t o gs
 census_turns g t o a stage.Free gs by st hand agreed last purpose is running v w whole over = absurd (running refl)
 census_turns g t o a (stage.HighAsked b None) gs by st hand agreed last purpose is running v w whole over = go (t.asked == 0) refl where
   begins : o ≡ beginning (next_course t)
@@ -203,8 +204,7 @@ heard_few y calls passed unblocked = go (nat_lt y.calls 3) refl (nat_lt 0 y.pass
 -- the fourth one since a visit succeeded, with some gear passed over
 blocked_turns : (g : ℕ) (t : Machine) (o : Order) (r : SearchAddress) (h : Answer) (room : ℕ) (gs : List Gear) → MisheardStands true g t gs
     → Calls g (stage.Hunted r (Some h) room) t.course t.silent gs → AreSeen t.kept t.heard gs × IsSpent g t.course.tally t.kept t.heard gs
-    → o ≡ beginning (next_course t) → next_course t ≡ blocked t
-    → is_blocked t.course.tally ≡ true → GoesTo g t o gs
+    → o ≡ beginning (next_course t) → next_course t ≡ blocked t → is_blocked t.course.tally ≡ true → GoesTo g t o gs
 blocked_turns g t o r h room gs st v known begins next is_blocked_now = go (nat_lt t.course.tally.draws 3) refl (has_open t) refl where
   passed : 0 < t.course.tally.passed.count
   passed = some (wanted.both_pass (not (nat_lt t.course.tally.calls 3)) (nat_lt 0 t.course.tally.passed.count) is_blocked_now).1 where
@@ -220,8 +220,7 @@ blocked_turns g t o r h room gs st v known begins next is_blocked_now = go (nat_
 
   go : (a : Bool) → nat_lt t.course.tally.draws 3 ≡ a → (b : Bool) → has_open t ≡ b → GoesTo g t o gs
   go true few true free =
-      first_by g t o (opening_at_last t.course) gs st.calm begins (by true (rw (few, free) refl)) st.calm.way
-      (record {
+      first_by g t o (opening_at_last t.course) gs st.calm begins (by true (rw (few, free) refl)) st.calm.way (record {
         opened_is = v.opened_is;
         counted = record {
           calls = omega arith;
@@ -261,27 +260,20 @@ answered_call g t o r h room gs by st purpose is v over = go (is_yes h) refl whe
 
   silent_one : is_yes h ≡ false → (b : Bool) → t.course.tally.is_silent ≡ b → GoesTo g t o gs
   silent_one quiet_so true twice =
-      first_by g t o (closing_by t.course AllFound) gs st.calm begins
-      (silent_next t r h room true is purpose quiet_so twice) st.calm.way
+      first_by g t o (closing_by t.course AllFound) gs st.calm begins (silent_next t r h room true is purpose quiet_so twice) st.calm.way
       (record { stage_is = tt; well = called_short h room gs v.roll.stage_is.1 quiet_so }) known.0
   silent_one quiet_so false once =
       first_by g t o (calling (record t.course { tally = silent_call t.course.tally })) gs st.calm begins
-      (silent_next t r h room false is purpose quiet_so once) st.calm.way
-      (record {
-        opened_is = v.opened_is;
-        counted = v.counted;
-        roll = roll_first gs;
-      }) known
+      (silent_next t r h room false is purpose quiet_so once) st.calm.way (record { opened_is = v.opened_is; counted = v.counted; roll = roll_first gs })
+      known
 
   heard_one : is_yes h ≡ true → (b : Bool) → is_blocked t.course.tally ≡ b → GoesTo g t o gs
   heard_one heard_so true stuck =
-      blocked_turns g t o r h room gs st v known begins
-      (heard_next t r h room true is purpose heard_so stuck) stuck
+      blocked_turns g t o r h room gs st v known begins (heard_next t r h room true is purpose heard_so stuck) stuck
   heard_one heard_so false free =
       let few = heard_few t.course.tally v.counted.calls v.counted.passed free in
       hunts_first g t o (record t.course { tally = heard_call t.course.tally }) gs st.calm begins
-      (heard_next t r h room false is purpose heard_so free) st.calm.way v.opened_is
-      (record {
+      (heard_next t r h room false is purpose heard_so free) st.calm.way v.opened_is (record {
         calls = few.0;
         draws = v.counted.draws;
         passed = more t.course.tally.passed.count ((heard_call t.course.tally).calls + t.course.tally.draws) few.1;
@@ -297,8 +289,7 @@ answered_call g t o r h room gs by st purpose is v over = go (is_yes h) refl whe
   go true heard_so = heard_one heard_so (is_blocked t.course.tally) refl
 
 pub calling_turns : (g : ℕ) (t : Machine) (o : Order) (s : Stage) (gs : List Gear) → IsGivenBy t o → MisheardStands true g t gs → t.course.purpose ≡ Calling
-    → stage_of t.trace ≡ s → (s ≡ stage.Free → ⊥) → Calls g s t.course t.silent gs → turn_of Calling t.course.number s ≡ None
-    → GoesTo g t o gs
+    → stage_of t.trace ≡ s → (s ≡ stage.Free → ⊥) → Calls g s t.course t.silent gs → turn_of Calling t.course.number s ≡ None → GoesTo g t o gs
 calling_turns g t o s gs by st purpose is running v over =
     let at = roll_over s t.course.number gs v.roll over running in
     answered_call g t o at.0 at.1 at.2 gs by st purpose (is ∙ at.3) (subst (λ q. Calls g q t.course t.silent gs) at.3 v) at.4
@@ -306,13 +297,10 @@ calling_turns g t o s gs by st purpose is running v over =
 -- ---------------------------------------------------------------- gear have drawn
 
 pub drawn_turns : (g : ℕ) (t : Machine) (o : Order) (p : Purpose) (gs : List Gear) → IsGivenBy t o → MisheardStands true g t gs → IsNoEnrolment t.last
-    → stage_of t.trace ≡ stage.Opened → Draws p stage.Opened t.course t.silent gs → AreSeen t.kept t.heard gs
-    → GoesTo g t o gs
+    → stage_of t.trace ≡ stage.Opened → Draws p stage.Opened t.course t.silent gs → AreSeen t.kept t.heard gs → GoesTo g t o gs
 drawn_turns g t o p gs by st last is v known =
-    hunts_first g t o t.course gs st.calm
-    (given.begins_after t o stage.Opened by is tt (found_at g t gs stage.Opened st is) last (never_eight t.tries st.calm.untried))
-    (ap (begins_at t) is ∙ ap (λ y. searching_first y t.course) st.calm.way) st.calm.way v.opened_is
-    (record {
+    hunts_first g t o t.course gs st.calm (given.begins_after t o stage.Opened by is tt (found_at g t gs stage.Opened st is) last
+    (never_eight t.tries st.calm.untried)) (ap (begins_at t) is ∙ ap (λ y. searching_first y t.course) st.calm.way) st.calm.way v.opened_is (record {
       calls = v.counted.calls;
       draws = v.counted.draws;
       passed = more t.course.tally.passed.count (t.course.tally.calls + t.course.tally.draws) v.counted.passed;

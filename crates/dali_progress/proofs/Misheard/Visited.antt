@@ -77,8 +77,8 @@ any_queried g x v n r gs hs h in_row same both is one on said = go said where
   go (inl byte) = subst (λ a. VisitStage g (queried r a) x v n hs) (sym byte) (by (gear_of gs g).short refl)
   go (inr none) = quiet h none
 
-any_verified : (g : ℕ) (x : Ascent) (v a : ℕ) (n r : SearchAddress) (hs : List Gear) (h : Answer) → IsReached x v hs → AreBare g hs → HaveShort hs v a
-    → a < 64 → IsOfOne g v hs → VisitStage g (verified r a h) x v n hs
+any_verified : (g : ℕ) (x : Ascent) (v a : ℕ) (n r : SearchAddress) (hs : List Gear) (h : Answer) → IsReached x v hs → AreBare g hs → HaveShort hs v a → a < 64
+    → IsOfOne g v hs → VisitStage g (verified r a h) x v n hs
 any_verified g x v a n r hs Silence reached bare short small one = (reached, bare, one)
 any_verified g x v a n r hs Damaged reached bare short small one = (reached, bare, one)
 any_verified g x v a n r hs (Byte b) reached bare short small one = go (short_of b) where
@@ -93,13 +93,11 @@ any_verified g x v a n r hs (Byte b) reached bare short small one = go (short_of
 -- who is visited: gear g, or another, whose answer is heard
 abbrev pub IsHeardOf : ℕ → ℕ → Option ℕ → List Gear → Answer → Type 0
 IsHeardOf g v o gs h =
-    (IsOfOne g v gs × ((gear_of gs g).powered ≡ true) × IsSaid (gear_of gs g).short h)
-    ⊎ (h ≡ Byte (program_data o))
+    (IsOfOne g v gs × ((gear_of gs g).powered ≡ true) × IsSaid (gear_of gs g).short h) ⊎ (h ≡ Byte (program_data o))
 
 visit_heard : (g v : ℕ) (n r : SearchAddress) (o : Option ℕ) (gs : List Gear) (numbers : List ℕ) (h : Answer) → Taken g QueryShort gs numbers h
     → wants gs v ≡ true → v < MASK24 → value_of r ≡ v → Seek gs r
-    → ((k : ℕ) → k < length gs → (k ≡ g → ⊥) → is_wanted (gear_of gs k) ≡ true → (gear_of gs k).random ≡ v → (gear_of gs k).short ≡ o)
-    → IsHeardOf g v o gs h
+    → ((k : ℕ) → k < length gs → (k ≡ g → ⊥) → is_wanted (gear_of gs k) ≡ true → (gear_of gs k).random ≡ v → (gear_of gs k).short ≡ o) → IsHeardOf g v o gs h
 visit_heard g v n r o gs numbers h t wants_it small same seek short = go (there.0 == g) refl where
   there : (k : ℕ) × (k < length gs) × (is_wanted (gear_of gs k) ≡ true) × ((gear_of gs k).random ≡ v)
   there = wanted.wants_at gs v wants_it
@@ -114,8 +112,8 @@ visit_heard g v n r o gs numbers h t wants_it small same seek short = go (there.
 
   go : (b : Bool) → (there.0 == g) ≡ b → IsHeardOf g v o gs h
   go true is =
-      inl (subst (λ k. ((gear_of gs k).random ≡ v) × ((gear_of gs k).powered ≡ true) × IsSaid (gear_of gs k).short h)
-      (wanted.same_number there.0 g is) (there.3, wanted.wanted_powered (gear_of gs there.0) there.2, said t.heard))
+      inl (subst (λ k. ((gear_of gs k).random ≡ v) × ((gear_of gs k).powered ≡ true) × IsSaid (gear_of gs k).short h) (wanted.same_number there.0 g is)
+      (there.3, wanted.wanted_powered (gear_of gs there.0) there.2, said t.heard))
   go false is = by t.heard where
     other : there.0 ≡ g → ⊥
     other e = let never : true ≡ false = sym (wanted.number_same there.0 g e) ∙ is in cc
@@ -160,14 +158,12 @@ past_withdrawn x v gs numbers r seek same reached = record {
 -- who was found is withdrawn
 withdraws : (g : ℕ) (p : Purpose) (s t : Stage) (c : Course) (silent : ℕ) (r : SearchAddress) (gs : List Gear) (numbers : List ℕ)
     → Hunts false g p s c silent gs → failed_at s ≡ 0 → found_at t c.ascent ≡ 1 → g < length gs → Seek gs r → AreNamedBut g (value_of r) gs
-    → HuntAt true g p t c.ascent c.number (after_withdraw gs numbers)
-    → Hunts true g p t c (silent_after t c.opened silent) (after_withdraw gs numbers)
+    → HuntAt true g p t c.ascent c.number (after_withdraw gs numbers) → Hunts true g p t c (silent_after t c.opened silent) (after_withdraw gs numbers)
 withdraws g p s t c silent r gs numbers v failed one there seek named at =
-    told_hunts g p t c silent hs v.opened_is
-    (counted_on g c.tally silent 0 gs hs (subst (λ n. IsCounted g c.tally silent n gs) failed v.counted) (gear.random_withdrawn gs numbers g there)
-    (gear.drawn_withdrawn gs numbers))
-    (few_on p g c.tally gs hs before v.few) (low_after Withdraw gs numbers tt v.low)
-    (subst (λ n. AreSought g n hs) (sym one) (gear.sought_withdrawn g (found_at s c.ascent) gs numbers r seek named v.sought_are)) at
+    told_hunts g p t c silent hs v.opened_is (counted_on g c.tally silent 0 gs hs (subst (λ n. IsCounted g c.tally silent n gs) failed v.counted)
+    (gear.random_withdrawn gs numbers g there) (gear.drawn_withdrawn gs numbers)) (few_on p g c.tally gs hs before v.few)
+    (low_after Withdraw gs numbers tt v.low) (subst (λ n. AreSought g n hs) (sym one)
+    (gear.sought_withdrawn g (found_at s c.ascent) gs numbers r seek named v.sought_are)) at
   where
     hs : List Gear
     hs = after_withdraw gs numbers
@@ -176,8 +172,7 @@ withdraws g p s t c silent r gs numbers v failed one there seek named at =
     before is =
         let w = withdraws_at gs numbers r seek g there in
         let up : (gear_of gs g).powered ≡ true = sym w.same_powered ∙ wanted.wanted_powered (gear_of hs g) is in
-        wanted.is_wanted_by (gear_of gs g) up
-        (gear.still_enabled (value_of r) (gear_of gs g) (gear_of hs g) w up (wanted.wanted_enabled (gear_of hs g) is)).0
+        wanted.is_wanted_by (gear_of gs g) up (gear.still_enabled (value_of r) (gear_of gs g) (gear_of hs g) w up (wanted.wanted_enabled (gear_of hs g) is)).0
 
 -- QUERY SHORT ADDRESS, before an address is programmed
 asked_sent : (g : ℕ) (r : SearchAddress) (c : Course) (silent : ℕ) (gs : List Gear) (numbers : List ℕ) (h : Answer)
@@ -282,28 +277,26 @@ confirmed_sent g a r c silent gs numbers h v is t seek =
           (reached, gear.bare_but_core g w.visited gs hs same w.stage_is.1, short, w.stage_is.3)
 
 pub visiting_sent : (g : ℕ) (s : Stage) (k : Kept) (c : Course) (silent : ℕ) (gs : List Gear) (numbers : List ℕ) (d : Command) (h : Answer)
-    → Hunts false g Visiting s c silent gs → Sends k c.number Visiting s d → Taken g d gs numbers h → Seeks s gs
-    → HuntedTo g Visiting s c silent gs numbers d h
+    → Hunts false g Visiting s c silent gs → Sends k c.number Visiting s d → Taken g d gs numbers h → Seeks s gs → HuntedTo g Visiting s c silent gs numbers d h
 visiting_sent g stage.Free k c silent gs numbers d h v is t seek =
     let same : SameCore gs (row_after Everyone (SearchHigh c.number.high) 0 gs numbers) = leaving.core_after (SearchHigh c.number.high) gs numbers tt in
     subst (λ e. HuntedTo g Visiting stage.Free c silent gs numbers e h) (sym is.0)
     (hunts_core g Visiting stage.Free (stage.HighSent c.number.high) c silent gs numbers (SearchHigh c.number.high) v refl refl refl same tt t.there
-    (visits_as g Visiting stage.Free (stage.HighSent c.number.high) c.ascent c.number gs _ v.at (both_core g v.at.visited c.ascent gs _ same v.at.stage_is)))
+    (visits_as g Visiting stage.Free (stage.HighSent c.number.high) c.ascent c.number gs _ v.at
+    (both_core g v.at.visited c.ascent gs _ same v.at.stage_is)))
 visiting_sent g (stage.HighSent high) k c silent gs numbers d h v is t seek =
     let same : SameCore gs (row_after Everyone (SearchMiddle c.number.middle) 0 gs numbers) = leaving.core_after (SearchMiddle c.number.middle) gs numbers tt in
     subst (λ e. HuntedTo g Visiting (stage.HighSent high) c silent gs numbers e h) (some_is (SearchMiddle c.number.middle) d is.0)
     (hunts_core g Visiting (stage.HighSent high) (stage.MiddleSent high c.number.middle) c silent gs numbers (SearchMiddle c.number.middle) v refl refl refl
-    same tt t.there
-    (visits_as g Visiting (stage.HighSent high) (stage.MiddleSent high c.number.middle) c.ascent c.number gs _ v.at
+    same tt t.there (visits_as g Visiting (stage.HighSent high) (stage.MiddleSent high c.number.middle) c.ascent c.number gs _ v.at
     (both_core g v.at.visited c.ascent gs _ same v.at.stage_is)))
 visiting_sent g (stage.MiddleSent high middle) k c silent gs numbers d h v is t seek =
     let same : SameCore gs (row_after Everyone (SearchLow c.number.low) 0 gs numbers) = leaving.core_after (SearchLow c.number.low) gs numbers tt in
     subst (λ e. HuntedTo g Visiting (stage.MiddleSent high middle) c silent gs numbers e h) (some_is (SearchLow c.number.low) d is.0)
-    (hunts_core g Visiting (stage.MiddleSent high middle) (stage.NumberSent (record { high = high; middle = middle; low = c.number.low })) c silent gs numbers
-    (SearchLow c.number.low) v refl refl refl same (low_byte c.number v.at.visited v.at.number) t.there
+    (hunts_core g Visiting (stage.MiddleSent high middle) (stage.NumberSent (record { high = high; middle = middle; low = c.number.low }))
+    c silent gs numbers (SearchLow c.number.low) v refl refl refl same (low_byte c.number v.at.visited v.at.number) t.there
     (visits_as g Visiting (stage.MiddleSent high middle) (stage.NumberSent (record { high = high; middle = middle; low = c.number.low }))
-    c.ascent c.number gs _ v.at
-    (both_core g v.at.visited c.ascent gs _ same v.at.stage_is)))
+    c.ascent c.number gs _ v.at (both_core g v.at.visited c.ascent gs _ same v.at.stage_is)))
 visiting_sent g (stage.NumberSent r) k c silent gs numbers d h v is t seek =
     subst (λ e. Taken g e gs numbers h → HuntedTo g Visiting (stage.NumberSent r) c silent gs numbers e h) (some_is QueryShort d is.0)
     (λ now. asked_sent g r c silent gs numbers h v is.1 now (seek r refl)) t
@@ -368,9 +361,9 @@ passing_sent g stage.Free k c silent gs numbers d h v is t seek =
 passing_sent g (stage.HighSent high) k c silent gs numbers d h v is t seek =
     let same : SameCore gs (row_after Everyone (SearchMiddle c.number.middle) 0 gs numbers) = leaving.core_after (SearchMiddle c.number.middle) gs numbers tt in
     subst (λ e. HuntedTo g PassingOver (stage.HighSent high) c silent gs numbers e h) (some_is (SearchMiddle c.number.middle) d is.0)
-    (hunts_core g PassingOver (stage.HighSent high) (stage.MiddleSent high c.number.middle) c silent gs numbers (SearchMiddle c.number.middle) v refl refl refl
-    same tt t.there
-    (visits_as g PassingOver (stage.HighSent high) (stage.MiddleSent high c.number.middle) c.ascent c.number gs _ v.at
+    (hunts_core g PassingOver (stage.HighSent high) (stage.MiddleSent high c.number.middle) c silent gs numbers
+    (SearchMiddle c.number.middle) v refl refl refl
+    same tt t.there (visits_as g PassingOver (stage.HighSent high) (stage.MiddleSent high c.number.middle) c.ascent c.number gs _ v.at
     (three_core g v.at.visited c.ascent gs _ same t.there v.at.stage_is)))
 passing_sent g (stage.MiddleSent high middle) k c silent gs numbers d h v is t seek =
     let same : SameCore gs (row_after Everyone (SearchLow c.number.low) 0 gs numbers) = leaving.core_after (SearchLow c.number.low) gs numbers tt in
@@ -378,8 +371,7 @@ passing_sent g (stage.MiddleSent high middle) k c silent gs numbers d h v is t s
     (hunts_core g PassingOver (stage.MiddleSent high middle) (stage.NumberSent (record { high = high; middle = middle; low = c.number.low })) c silent gs
     numbers (SearchLow c.number.low) v refl refl refl same (low_byte c.number v.at.visited v.at.number) t.there
     (visits_as g PassingOver (stage.MiddleSent high middle) (stage.NumberSent (record { high = high; middle = middle; low = c.number.low }))
-    c.ascent c.number gs _ v.at
-    (three_core g v.at.visited c.ascent gs _ same t.there v.at.stage_is)))
+    c.ascent c.number gs _ v.at (three_core g v.at.visited c.ascent gs _ same t.there v.at.stage_is)))
 passing_sent g (stage.NumberSent r) k c silent gs numbers d h v is t seek =
     subst (λ e. HuntedTo g PassingOver (stage.NumberSent r) c silent gs numbers e h) (some_is Withdraw d is.0)
     (withdraws g PassingOver (stage.NumberSent r) (stage.PassedOver r) c silent r gs numbers v refl refl t.there (seek r refl)

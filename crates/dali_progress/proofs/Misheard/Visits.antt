@@ -104,8 +104,7 @@ vain_over g t o h r room gs asks next none v = go (has_open t) refl (nat_lt t.co
   go true free true few =
       first_by g t o (drawing (hunted t.course h)) gs calm
       (begins_by t o (drawing (hunted t.course h)) r room asks (vain_next t h true true next free few) refl)
-      (vain_next t h true true next free few) v.stands.calm.way
-      (record {
+      (vain_next t h true true next free few) v.stands.calm.way (record {
         opened_is = v.opened_is;
         counted = counted_draw g t.course.tally t.silent gs v.counted few;
         draw = record {
@@ -119,7 +118,11 @@ vain_over g t o h r room gs asks next none v = go (has_open t) refl (nat_lt t.co
       first_by g t o (closing_by (hunted t.course h) GaveUp) gs calm
       (begins_by t o (closing_by (hunted t.course h) GaveUp) r room asks (vain_next t h true false next free spent) refl)
       (vain_next t h true false next free spent) v.stands.calm.way
-      (record { stage_is = tt; well = inl (served_by g t.course.ascent.found gs v.sought_are (v.counted.drawn (some t.course.tally.draws spent)) v.nobody) })
+      (record {
+        stage_is = tt;
+        well = inl (served_by g t.course.ascent.found gs v.sought_are
+            (v.counted.drawn (some t.course.tally.draws spent)) v.nobody);
+      })
       v.known
     where
       some : (n : ℕ) → nat_lt n 3 ≡ false → 0 < n
@@ -137,12 +140,7 @@ found_over : (g : ℕ) (t : Machine) (o : Order) (h : Answer) (r : SearchAddress
     → next_course t ≡ calling (hunted t.course h) → IsOver g t gs → GoesTo g t o gs
 found_over g t o h r room gs asks next v =
     first_by g t o (calling (hunted t.course h)) gs v.stands.calm (begins_by t o (calling (hunted t.course h)) r room asks next refl) next
-    v.stands.calm.way
-    (record {
-      opened_is = v.opened_is;
-      counted = v.counted;
-      roll = roll_first gs;
-    })
+    v.stands.calm.way (record { opened_is = v.opened_is; counted = v.counted; roll = roll_first gs })
     (v.known, inl (λ passed drew. served_by g t.course.ascent.found gs v.sought_are (v.counted.drawn drew) v.nobody))
 
 hunt_over : (g : ℕ) (t : Machine) (o : Order) (h : Answer) (r : SearchAddress) (room : ℕ) (gs : List Gear) → o ≡ question (next_course t) r room
@@ -153,8 +151,7 @@ hunt_over g t o h r room gs asks next v = go ((hunted t.course h).ascent.found =
 
   go : (b : Bool) → ((hunted t.course h).ascent.found == 0) ≡ b → GoesTo g t o gs
   go true is =
-      vain_over g t o h r room gs asks (by true is)
-      (sym (found_same t.course.ascent (is_yes h)) ∙ wanted.same_number (hunted t.course h).ascent.found 0 is) v
+      vain_over g t o h r room gs asks (by true is) (sym (found_same t.course.ascent (is_yes h)) ∙ wanted.same_number (hunted t.course h).ascent.found 0 is) v
   go false is = found_over g t o h r room gs asks (by false is) v
 
 -- ---------------------------------------------------------------- a hunt
@@ -163,10 +160,10 @@ hunt_over g t o h r room gs asks next v = go ((hunted t.course h).ascent.found =
 goes_on : (g : ℕ) (t : Machine) (o : Order) (h : Answer) (r : SearchAddress) (room : ℕ) (gs : List Gear) → MisheardStands true g t gs
     → t.course.purpose ≡ Hunting → stage_of t.trace ≡ stage.Hunted r (Some h) room → next_course t ≡ hunting (hunted t.course h)
     → o ≡ Put LATER (frame_of (byte_to_send (hunting (hunted t.course h)).number r))
-    → Hunts false g Hunting (stage.Hunted r (Some h) room) (hunting (hunted t.course h)) t.silent gs
-    → AreSeen t.kept t.heard gs → GoesTo g t o gs
-goes_on g t o h r room gs st purpose is next sends v known = subst (λ q. GoesTo g t q gs) (sym sends)
-    (subst (λ m. IsNext g m (Put LATER (frame_of c)) gs) (sym (later_asked t h r room (frame_of c) purpose is next)) (record {
+    → Hunts false g Hunting (stage.Hunted r (Some h) room) (hunting (hunted t.course h)) t.silent gs → AreSeen t.kept t.heard gs → GoesTo g t o gs
+goes_on g t o h r room gs st purpose is next sends v known =
+    subst (λ q. GoesTo g t q gs) (sym sends) (subst (λ m. IsNext g m (Put LATER (frame_of c)) gs) (sym (later_asked t h r room (frame_of c) purpose is next))
+    (record {
       calm = st.calm;
       trace = st.trace;
       at = subst (λ s. Hunts false g Hunting s (hunting (hunted t.course h)) t.silent gs) (sym is) v;
@@ -175,8 +172,8 @@ goes_on g t o h r room gs st purpose is next sends v known = subst (λ q. GoesTo
       c : Command
       c = byte_to_send (hunting (hunted t.course h)).number r
 
-answered_turns : (g : ℕ) (t : Machine) (o : Order) (r : SearchAddress) (h : Answer) (room : ℕ) (gs : List Gear) → IsGivenBy t o
-    → MisheardStands true g t gs → IsAtHand t.kept gs → t.course.purpose ≡ Hunting → stage_of t.trace ≡ stage.Hunted r (Some h) room
+answered_turns : (g : ℕ) (t : Machine) (o : Order) (r : SearchAddress) (h : Answer) (room : ℕ) (gs : List Gear) → IsGivenBy t o → MisheardStands true g t gs
+    → IsAtHand t.kept gs → t.course.purpose ≡ Hunting → stage_of t.trace ≡ stage.Hunted r (Some h) room
     → Hunts true g Hunting (stage.Hunted r (Some h) room) t.course t.silent gs → GoesTo g t o gs
 answered_turns g t o r h room gs by st hand purpose is v = go (leads_to (ascended t.course.ascent (is_yes h))) refl where
   known : AreSeen t.kept t.heard gs
@@ -206,12 +203,10 @@ answered_turns g t o r h room gs by st hand purpose is v = go (leads_to (ascende
   sought_are : AreSought g (hunted t.course h).ascent.found gs
   sought_are = subst (λ n. AreSought g n gs) (sym (found_same t.course.ascent (is_yes h))) v.sought_are
 
-  again : (b : Bool) → nat_lt (bytes_to_send (hunting (hunted t.course h)).number r) room ≡ b
-      → leads_to (ascended t.course.ascent (is_yes h)) ≡ Again → GoesTo g t o gs
+  again : (b : Bool) → nat_lt (bytes_to_send (hunting (hunted t.course h)).number r) room ≡ b → leads_to (ascended t.course.ascent (is_yes h)) ≡ Again
+      → GoesTo g t o gs
   again true some e =
-      goes_on g t o h r room gs st purpose is (next Again e)
-      (asked_where t o h r room true asks (next Again e) some)
-      (record {
+      goes_on g t o h r room gs st purpose is (next Again e) (asked_where t o h r room true asks (next Again e) some) (record {
         opened_is = v.opened_is;
         counted = v.counted;
         few = v.few;
@@ -221,9 +216,7 @@ answered_turns g t o r h room gs by st hand purpose is v = go (leads_to (ascende
         at = record { is = ascent; knows = knows; running = e; number = refl; bare = p.bare; stage_is = tt };
       }) known
   again false none e =
-      first_by g t o (hunting (hunted t.course h)) gs st.calm
-      (asked_where t o h r room false asks (next Again e) none) (next Again e) st.calm.way
-      (record {
+      first_by g t o (hunting (hunted t.course h)) gs st.calm (asked_where t o h r room false asks (next Again e) none) (next Again e) st.calm.way (record {
         opened_is = v.opened_is;
         counted = v.counted;
         few = v.few;
@@ -237,9 +230,8 @@ answered_turns g t o r h room gs by st hand purpose is v = go (leads_to (ascende
   go Again e = again (nat_lt (bytes_to_send (hunting (hunted t.course h)).number r) room) refl e
   go (Found m) e =
       let there = climbing.found_is (wants gs) (ascended t.course.ascent (is_yes h)) m knows e in
-      first_by g t o (visiting (hunted t.course h) m) gs st.calm
-      (begins_by t o (visiting (hunted t.course h) m) r room asks (next (Found m) e) refl) (next (Found m) e) st.calm.way
-      (record {
+      first_by g t o (visiting (hunted t.course h) m) gs st.calm (begins_by t o (visiting (hunted t.course h) m) r room asks (next (Found m) e) refl)
+      (next (Found m) e) st.calm.way (record {
         opened_is = v.opened_is;
         counted = v.counted;
         few = v.few;
@@ -254,8 +246,7 @@ answered_turns g t o r h room gs by st hand purpose is v = go (leads_to (ascende
         };
       }) known
   go Nobody e =
-      hunt_over g t o h r room gs asks (next Nobody e)
-      (record {
+      hunt_over g t o h r room gs asks (next Nobody e) (record {
         stands = st;
         opened_is = v.opened_is;
         counted = v.counted;
@@ -293,10 +284,8 @@ passed_more y r few = go (nat_lt y.passed.count 255) refl where
 
 failed_turns : (g : ℕ) (t : Machine) (o : Order) (s : Stage) (gs : List Gear) → MisheardStands true g t gs → DrewApart gs
     → Hunts true g Visiting s t.course t.silent gs → stands.failed_at s ≡ 1 → stands.found_at s t.course.ascent ≡ t.course.ascent.found
-    → (w : Visits g Visiting s t.course.ascent t.course.number gs)
-    → IsReached t.course.ascent w.visited gs × AreBare g gs × IsOfOne g w.visited gs → AreSeen t.kept t.heard gs
-    → o ≡ beginning (next_course t) → next_course t ≡ silenced t
-    → GoesTo g t o gs
+    → (w : Visits g Visiting s t.course.ascent t.course.number gs) → IsReached t.course.ascent w.visited gs × AreBare g gs × IsOfOne g w.visited gs
+    → AreSeen t.kept t.heard gs → o ≡ beginning (next_course t) → next_course t ≡ silenced t → GoesTo g t o gs
 failed_turns g t o s gs st apart v failed found w at known begins next = go (is_failed t.course.tally.failed (value_of t.course.number)) refl where
   y : Tally
   y = t.course.tally
@@ -341,8 +330,7 @@ failed_turns g t o s gs st apart v failed found w at known begins next = go (is_
 
   go : (b : Bool) → is_failed t.course.tally.failed (value_of t.course.number) ≡ b → GoesTo g t o gs
   go true twice =
-      first_by g t o (passing_over t.course) gs st.calm begins (by true twice) st.calm.way
-      (record {
+      first_by g t o (passing_over t.course) gs st.calm begins (by true twice) st.calm.way (record {
         opened_is = v.opened_is;
         counted = record {
           calls = counted.calls;
@@ -372,8 +360,7 @@ failed_turns g t o s gs st apart v failed found w at known begins next = go (is_
       enough : (silent count draws : ℕ) → silent + 0 ≤ 2 * count + 1 + 20 * draws + 1 → silent + 1 ≤ 2 * (count + 1) + 1 + 20 * draws + 0
       enough silent count draws quiet = omega (arith, quiet)
   go false once =
-      first_by g t o (missed t.course) gs st.calm begins (by false once) st.calm.way
-      (record {
+      first_by g t o (missed t.course) gs st.calm begins (by false once) st.calm.way (record {
         opened_is = v.opened_is;
         counted = record {
           calls = counted.calls;
@@ -410,8 +397,7 @@ ungiven_turns : (g : ℕ) (t : Machine) (o : Order) (r : SearchAddress) (gs : Li
 ungiven_turns g t o r gs st v is begins filled known hand = go (may_draw t) refl where
   go : (b : Bool) → may_draw t ≡ b → GoesTo g t o gs
   go true may =
-      first_by g t o (opening_anew t.course) gs st.calm begins (ungiven_next t r true is st.calm.way may) st.calm.way
-      (record {
+      first_by g t o (opening_anew t.course) gs st.calm begins (ungiven_next t r true is st.calm.way may) st.calm.way (record {
         opened_is = v.opened_is;
         counted = counted_draw g t.course.tally t.silent gs v.counted (wanted.both_pass (nat_lt t.course.tally.draws 3) (has_open t) may).0;
         draw = record { stage_is = tt; drawn = tt; gear = λ k in_row on. tt; low = v.low };
@@ -419,9 +405,8 @@ ungiven_turns g t o r gs st v is begins filled known hand = go (may_draw t) refl
   go false may = fills g t o t.course gs st.calm begins (ungiven_next t r false is st.calm.way may) st.calm.way v.counted known filled hand.one hand.holds
 
 -- an address that is open is not marked
-unnamed_turns : (g : ℕ) (t : Machine) (o : Order) (r : SearchAddress) (gs : List Gear) → IsGivenBy t o → MisheardStands true g t gs
-    → IsAtHand t.kept gs → t.course.purpose ≡ Visiting → stage_of t.trace ≡ stage.Unnamed r
-    → Hunts true g Visiting (stage.Unnamed r) t.course t.silent gs → GoesTo g t o gs
+unnamed_turns : (g : ℕ) (t : Machine) (o : Order) (r : SearchAddress) (gs : List Gear) → IsGivenBy t o → MisheardStands true g t gs → IsAtHand t.kept gs
+    → t.course.purpose ≡ Visiting → stage_of t.trace ≡ stage.Unnamed r → Hunts true g Visiting (stage.Unnamed r) t.course t.silent gs → GoesTo g t o gs
 unnamed_turns g t o r gs by st hand purpose is v =
     go (address_for t.kept.reserved (value_of r)) (found_address t.kept.reserved (value_of r)) (least_open t.kept t.heard) refl
     (subst (λ y. AfterMaskOn y t (course_by t o) r o) st.calm.way (by.ordered.unnamed r is)) where
@@ -464,8 +449,7 @@ unnamed_turns g t o r gs by st hand purpose is v =
 -- who was found is withdrawn
 withdrawn_turns : (g : ℕ) (t : Machine) (o : Order) (r : SearchAddress) (a : ℕ) (gs : List Gear) → IsGivenBy t o → MisheardStands true g t gs
     → IsAtHand t.kept gs → IsUncontradicted t → t.course.purpose ≡ Visiting → stage_of t.trace ≡ stage.Withdrawn r a
-    → Hunts true g Visiting (stage.Withdrawn r a) t.course t.silent gs
-    → GoesTo g t o gs
+    → Hunts true g Visiting (stage.Withdrawn r a) t.course t.silent gs → GoesTo g t o gs
 withdrawn_turns g t o r a gs by st hand agreed purpose is v = go o by (by.ordered.found r a is) where
   w : Visits g Visiting (stage.Withdrawn r a) t.course.ascent t.course.number gs
   w = v.at
@@ -534,11 +518,10 @@ passing_turns g t o (stage.HighSent high) gs by st last purpose is running v who
 passing_turns g t o (stage.MiddleSent high middle) gs by st last purpose is running v whole over = absurd (cc)
 passing_turns g t o (stage.NumberSent r) gs by st last purpose is running v whole over = absurd (cc)
 passing_turns g t o (stage.PassedOver r) gs by st last purpose is running v whole over =
-    hunts_above g t o t.course w.visited gs st.calm
-    (begins_whole t o PassingOver (stage.PassedOver r) by purpose is (λ q e. cc) (λ e. cc) tt (λ f sends. (let none = sends.0 in cc))
-    (found_at g t gs (stage.PassedOver r) st is) last st.calm.untried whole)
-    (ap (begins_at t) is) st.calm.way v.opened_is v.counted (λ wanted_is. absurd (unwanted wanted_is)) v.low v.sought_are w.stage_is.1 w.drawn w.stage_is.0
-    (known_as g t gs PassingOver st purpose)
+    hunts_above g t o t.course w.visited gs st.calm (begins_whole t o PassingOver (stage.PassedOver r) by purpose is (λ q e. cc) (λ e. cc) tt
+    (λ f sends. (let none = sends.0 in cc)) (found_at g t gs (stage.PassedOver r) st is) last st.calm.untried whole)
+    (ap (begins_at t) is) st.calm.way v.opened_is v.counted (λ wanted_is. absurd (unwanted wanted_is))
+    v.low v.sought_are w.stage_is.1 w.drawn w.stage_is.0 (known_as g t gs PassingOver st purpose)
   where
     w : Visits g PassingOver (stage.PassedOver r) t.course.ascent t.course.number gs
     w = v.at
@@ -572,8 +555,7 @@ turned g t o gs by st hand agreed whole last running = turn (turn_of t.course.pu
   go Visiting purpose at over = visiting_turns g t o (stage_of t.trace) gs by st hand agreed last purpose refl running at over
   go PassingOver purpose at over = passing_turns g t o (stage_of t.trace) gs by st last purpose refl running at whole over
   go (Closing e) purpose at over =
-      subst (λ q. GoesTo g t q gs)
-      (sym (close_ends t o e (stage_of t.trace) by purpose refl running at.stage_is st.trace.finding st.calm.untried)) at.well
+      subst (λ q. GoesTo g t q gs) (sym (close_ends t o e (stage_of t.trace) by purpose refl running at.stage_is st.trace.finding st.calm.untried)) at.well
   go Probing purpose at over = absurd at
   go (Resolving a) purpose at over = absurd at
 

@@ -44,10 +44,8 @@ due_waits w q c m k i at good due =
 acted_call : (start : Begun) (s : SiteState) (c left d : ℕ) (i : Input) (o : Order) → Runs (of_survey start) s c left → Allowed (world s) (event.Acted d i o)
     → IsOfRound true s c (event.Acted d i o) → IsOfCall s (event.Acted d i o)
 acted_call start s c left d i o u here of =
-    subst (λ n. Allowed (world s) (event.Acted n i o) → IsOfCall s (event.Acted n i o)) (sym of.0)
-    (λ now. (
-      subst (λ m. Waits m i) (sym u.there)
-          (ap (λ l. accepts (due_after l) i) u.goes.lone.last
+    subst (λ n. Allowed (world s) (event.Acted n i o) → IsOfCall s (event.Acted n i o)) (sym of.0) (λ now. (
+      subst (λ m. Waits m i) (sym u.there) (ap (λ l. accepts (due_after l) i) u.goes.lone.last
           ∙ due_waits (world s) s.queue c u.machine (controller_at (world s) c) i u.goes.lone.moment of.1 now.due),
       of.2,
       of.3 refl,
@@ -57,8 +55,7 @@ sent_call : (start : Begun) (s : SiteState) (c left d : ℕ) (f : Forward) (h : 
     → IsOfCall s (event.Sent d f h)
 sent_call start s c left d f h u of =
     let put = lone_next (world s) s.queue c u.machine of.0 u.goes.lone of.1 in
-    subst (λ n. WasOrdered s n f) (sym (of.2 ∙ put.3))
-    (inr (ap frame_put (sym u.goes.lone.last ∙ put.1) ∙ ap (λ g. Some g) (sym of.3)))
+    subst (λ n. WasOrdered s n f) (sym (of.2 ∙ put.3)) (inr (ap frame_put (sym u.goes.lone.last ∙ put.1) ∙ ap (λ g. Some g) (sym of.3)))
 
 call_of : (start : Begun) (s : SiteState) (c left : ℕ) (e : Event) → Runs (of_survey start) s c left → Allowed (world s) e → IsOfRound true s c e → IsOfCall s e
 call_of start s c left (event.Acted d i o) u here of = acted_call start s c left d i o u here of

@@ -35,9 +35,8 @@ elsewhere U z v w w' ms ms' c controller machine l m there = subst (λ (k : Cont
 -- ---------------------------------------------------------------- it acts
 
 acted_here : (U : ℕ → Type 0) (z : Block) (v : ℕ → ℕ) (w : World) (ms : List (Option Machine)) (c : ℕ) (i : Input) (o : Order) → ((a : ℕ) → U a → a < 64)
-    → IsActed w c i o
-    → (i ≡ input.Start → ⊥) → Waits (machine_in ms c) i × MayAnswer (machine_in ms c) i o × LeavesWhole (machine_in ms c) i o → IsLived U z v w ms c
-    → IsLived U z v (happens w (event.Acted c i o)) (machines_after w ms (event.Acted c i o)) c
+    → IsActed w c i o → (i ≡ input.Start → ⊥) → Waits (machine_in ms c) i × MayAnswer (machine_in ms c) i o × LeavesWhole (machine_in ms c) i o
+    → IsLived U z v w ms c → IsLived U z v (happens w (event.Acted c i o)) (machines_after w ms (event.Acted c i o)) c
 acted_here U z v w ms c i o below here unstarted of l n there = go (machine_in ms c) refl of where
   go : (x : Option Machine) → machine_in ms c ≡ x → Waits x i × MayAnswer x i o × LeavesWhole x i o
       → Lives U z v (controller_at (happens w (event.Acted c i o)) c) n
@@ -51,14 +50,11 @@ acted_here U z v w ms c i o below here unstarted of l n there = go (machine_in m
       (subst (λ (k : Controller). Lives U z v k (machine_after m i o)) (sym (acted_there w c i o here.up))
       (lives_acted U z v (controller_at w c) m i o below (l m has) here.due unstarted of.0 of.1 of.2))
 
-acted_lived : (U : ℕ → Type 0) (z : Block) (v : ℕ → ℕ) (w : World) (ms : List (Option Machine)) (c d : ℕ) (i : Input) (o : Order)
-    → ((a : ℕ) → U a → a < 64) → IsActed w d i o → (d ≡ c
-    → i ≡ input.Start → ⊥)
-    → Waits (machine_in ms d) i × MayAnswer (machine_in ms d) i o × LeavesWhole (machine_in ms d) i o → IsLived U z v w ms c
-    → IsLived U z v (happens w (event.Acted d i o)) (machines_after w ms (event.Acted d i o)) c
+acted_lived : (U : ℕ → Type 0) (z : Block) (v : ℕ → ℕ) (w : World) (ms : List (Option Machine)) (c d : ℕ) (i : Input) (o : Order) → ((a : ℕ) → U a → a < 64)
+    → IsActed w d i o → (d ≡ c → i ≡ input.Start → ⊥) → Waits (machine_in ms d) i × MayAnswer (machine_in ms d) i o × LeavesWhole (machine_in ms d) i o
+    → IsLived U z v w ms c → IsLived U z v (happens w (event.Acted d i o)) (machines_after w ms (event.Acted d i o)) c
 acted_lived U z v w ms c d i o below here unstarted of l =
-    by_place _ d c
-    (λ same. subst (λ n. IsLived U z v w ms n → IsLived U z v (happens w (event.Acted d i o)) (machines_after w ms (event.Acted d i o)) n) same
+    by_place _ d c (λ same. subst (λ n. IsLived U z v w ms n → IsLived U z v (happens w (event.Acted d i o)) (machines_after w ms (event.Acted d i o)) n) same
     (acted_here U z v w ms d i o below here (unstarted same) of) l)
     (λ other. elsewhere U z v w (happens w (event.Acted d i o)) ms (machines_after w ms (event.Acted d i o)) c
     (get_or-set_other w.controllers d c (controller_acted (controller_at w d) i o) nobody other)
@@ -80,15 +76,14 @@ fair_heard U v opened asked f h last was put well fair = go (is_arc (command_of 
   go false = (f, put, well)
 
 fair_destroyed : (U : ℕ → Type 0) (v : ℕ → ℕ) (opened : Bool) (asked : ℕ) (c : Command) (last : Option Order) (was : Option Input)
-    → IsFair U v opened asked last was
-    → IsFair U v opened asked last (told_of c input.Destroyed was)
+    → IsFair U v opened asked last was → IsFair U v opened asked last (told_of c input.Destroyed was)
 fair_destroyed U v opened asked c last was fair = go (is_arc c) where
   go : (b : Bool) → IsFair U v opened asked last (if b then was else Some input.Destroyed)
   go true = fair
   go false = tt
 
-sent_lived : (U : ℕ → Type 0) (z : Block) (v v' : ℕ → ℕ) (w : World) (ms : List (Option Machine)) (c d : ℕ) (f : Forward) (h : Answer)
-    → IsSent w d f h → AreSmall w.gear → IsArc f ⊎ (frame_put (controller_at w d).last ≡ Some f) → ((a : ℕ) → U a → v a ≤ v' a)
+sent_lived : (U : ℕ → Type 0) (z : Block) (v v' : ℕ → ℕ) (w : World) (ms : List (Option Machine)) (c d : ℕ) (f : Forward) (h : Answer) → IsSent w d f h
+    → AreSmall w.gear → IsArc f ⊎ (frame_put (controller_at w d).last ≡ Some f) → ((a : ℕ) → U a → v a ≤ v' a)
     → ((m : Machine) → machine_in ms c ≡ Some m → (a : ℕ) → U a → IsFewAt v' m a)
     → ((a : ℕ) → d ≡ c → command_of f ≡ RandomByte a High → h ≡ Silence → v' a ≡ v a + 1) → IsLived U z v w ms c
     → IsLived U z v' (happens w (event.Sent d f h)) ms c
@@ -163,8 +158,7 @@ block_moved z w c _ b = b
 down_lived : (U : ℕ → Type 0) (z : Block) (v : ℕ → ℕ) (w : World) (ms : List (Option Machine)) (c d : ℕ) → IsLived U z v w ms c
     → IsLived U z v (happens w (event.Down d)) (machines_after w ms (event.Down d)) c
 down_lived U z v w ms c d l =
-    by_place _ d c
-    (λ same. subst (λ n. IsLived U z v (happens w (event.Down d)) (machines_after w ms (event.Down d)) n) same
+    by_place _ d c (λ same. subst (λ n. IsLived U z v (happens w (event.Down d)) (machines_after w ms (event.Down d)) n) same
     (λ m there. absurd (let never : None ≡ Some m = sym (none_set ms d) ∙ there in cc)))
     (λ other. elsewhere U z v w (happens w (event.Down d)) ms (machines_after w ms (event.Down d)) c
     (get_or-set_other w.controllers d c (gone_down (controller_at w d)) nobody other) (get_or-set_other ms d c None None other) l)
@@ -173,8 +167,7 @@ up_lived : (U : ℕ → Type 0) (z : Block) (v v' : ℕ → ℕ) (w : World) (ms
     → (controller_at w c).records.block ≡ z → (d ≡ c → (a : ℕ) → v' a ≡ 0) → ((c ≡ d → ⊥) → (a : ℕ) → v' a ≡ v a) → IsLived U z v w ms c
     → IsLived U z v' (happens w (event.Up d kept)) (machines_after w ms (event.Up d kept)) c
 up_lived U z v v' w ms c d kept down block anew else_same l =
-    by_place _ d c
-    (λ same. subst (λ n. IsLived U z v' (happens w (event.Up d kept)) (machines_after w ms (event.Up d kept)) n) same
+    by_place _ d c (λ same. subst (λ n. IsLived U z v' (happens w (event.Up d kept)) (machines_after w ms (event.Up d kept)) n) same
     (begins (anew same) (subst (λ n. (controller_at w n).records.block ≡ z) (sym same) block)))
     (λ other. elsewhere U z v' w (happens w (event.Up d kept)) ms (machines_after w ms (event.Up d kept)) c
     (get_or-set_other w.controllers d c (come_up kept (controller_at w d)) nobody other)
@@ -225,8 +218,7 @@ Heeds s c v (event.Sent d f h) =
     (m : Machine) → machine_at s c ≡ Some m → (a : ℕ) → IsUsedOf s.plan c a → IsFewAt (counts_after c v (event.Sent d f h)) m a
 Heeds s c v _ = Unit {0}
 
-hears_heeds : (s : SiteState) (c : ℕ) (v : ℕ → ℕ) (e : Event) → BeginsBySurveys c e → ((a : ℕ) → IsUsedOf s.plan c a → counts_after c v e a < 3)
-    → Heeds s c v e
+hears_heeds : (s : SiteState) (c : ℕ) (v : ℕ → ℕ) (e : Event) → BeginsBySurveys c e → ((a : ℕ) → IsUsedOf s.plan c a → counts_after c v e a < 3) → Heeds s c v e
 hears_heeds s c v (event.Acted d i o) begins few = begins
 hears_heeds s c v (event.Sent d f h) begins few = λ m there a used. inl (λ early. few a used)
 hears_heeds s c v _ begins few = tt
@@ -337,8 +329,7 @@ leaves_now s c v m i o plan l due given used =
     (λ a within has. (within, has)) l due given used
 
 pub lived_leaves : (s : SiteState) (c : ℕ) (v : ℕ → ℕ) (i : Input) (o : Order) → IsPlan s.plan → IsLivedAt s c v → IsActed (world s) c i o
-    → MayAnswer (machine_at s c) i o
-    → ReservesUsed s.plan.used o → ⊥
+    → MayAnswer (machine_at s c) i o → ReservesUsed s.plan.used o → ⊥
 lived_leaves s c v i o plan l acts answer used = go (machine_at s c) refl answer where
   go : (x : Option Machine) → machine_at s c ≡ x → MayAnswer x i o → ⊥
   go None has answer = elim answer [ ]
@@ -353,8 +344,8 @@ unrefused_now s c v i plan l refused = go (machine_at s c) refl refused.4.0 (ref
 
 -- the life of a controller that surveys and hears the used gear goes on
 pub lived_all : (s : SiteState) (c : ℕ) (v : ℕ → ℕ) (es : List Event) → IsPlan s.plan → IsLivedAt s c v → AreOfCalls s es
-    → AllByRecursion (BeginsBySurveys c) es → ((a : ℕ) → IsUsedOf s.plan c a → IsHeardInTime c a (v a) es)
-    → (P : SiteState → Type 0) → ((t : SiteState) (u : ℕ → ℕ) → IsPlan t.plan → IsLivedAt t c u → P t) → P (site_after s es)
+    → AllByRecursion (BeginsBySurveys c) es → ((a : ℕ) → IsUsedOf s.plan c a → IsHeardInTime c a (v a) es) → (P : SiteState → Type 0)
+    → ((t : SiteState) (u : ℕ → ℕ) → IsPlan t.plan → IsLivedAt t c u → P t) → P (site_after s es)
 lived_all s c v [] plan l are begin hear P known = known s v plan l
 lived_all s c v (e ∷ es) plan l are begin hear P known =
     lived_all (site_logged s e) c (counts_after c v e) es plan

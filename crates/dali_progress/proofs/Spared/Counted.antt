@@ -26,8 +26,8 @@ counted_more U n n' m more (inr (inr (b, purpose, put, bound))) =
 
 -- the question that is asked again stays the one that is asked
 stays_or_ends : (t : Machine) (b : ℕ) (s : Stage) → t.course.purpose ≡ Asking b → next_course t ≡ t.course → stage_of t.trace ≡ s → IsUnasked s t.course.purpose
-    → ((n : _) → s ≡ stage.Unnamed n → ⊥) → finding_of t.trace ≡ None → ((c n : ℕ) → t.last ≡ Some (Commit (Enrol c n)) → ⊥)
-    → (o : Order) → IsAllowed t o → IsEnded (machine_ordered t o) ⊎ (((machine_ordered t o).course.purpose ≡ Asking b) × IsPut (machine_ordered t o).last)
+    → ((n : _) → s ≡ stage.Unnamed n → ⊥) → finding_of t.trace ≡ None → ((c n : ℕ) → t.last ≡ Some (Commit (Enrol c n)) → ⊥) → (o : Order) → IsAllowed t o
+    → IsEnded (machine_ordered t o) ⊎ (((machine_ordered t o).course.purpose ≡ Asking b) × IsPut (machine_ordered t o).last)
 stays_or_ends t b s purpose same at unasked named none last =
     by_kind t (λ o. IsEnded (machine_ordered t o) ⊎ (((machine_ordered t o).course.purpose ≡ Asking b) × IsPut (machine_ordered t o).last))
     (λ f. inr (ap (λ c. c.purpose) same ∙ purpose, (_, f, refl)))
@@ -92,8 +92,7 @@ heard_counted U n m h p f b o purpose last whole bound may = go hears.at where
   go : ((stage_of (machine_heard m (Some f) h).trace ≡ stage.HighAsked b (byte_heard h))
       × ((machine_heard m (Some f) h).asked ≡ asked_at (stage.HighAsked b (byte_heard h)) h m.asked))
       ⊎ (((y : Option (ℕ × ℕ)) × (stage_of (machine_heard m (Some f) h).trace ≡ stage.MiddleAsked b y))
-      ⊎ ((y : Option ℕ) × (stage_of (machine_heard m (Some f) h).trace ≡ stage.Spelled b y)))
-      → IsCounted U n (machine_ordered (machine_heard m (Some f) h) o)
+      ⊎ ((y : Option ℕ) × (stage_of (machine_heard m (Some f) h).trace ≡ stage.Spelled b y))) → IsCounted U n (machine_ordered (machine_heard m (Some f) h) o)
   go (inr (inl (y, at))) = inl (asked_none (course_by t o).opened t.asked (zero_at (stage.MiddleAsked b y) at refl))
   go (inr (inr (y, at))) = inl (asked_none (course_by t o).opened t.asked (zero_at (stage.Spelled b y) at refl))
   go (inl (at, asked)) = by (first_asked b h m.asked) where
@@ -116,8 +115,7 @@ asked_or (Asking b) = inl (b, refl)
 asked_or _ = inr (λ s h k. refl)
 
 heard_on : (U : ℕ → Type 0) (n : ℕ → ℕ) (m : Machine) (h : Answer) (p : ℕ) (f : Forward) (o : Order) → m.last ≡ Some (Put p f) → IsWhole m
-    → ((b : ℕ) → m.course.purpose ≡ Asking b → stage_of (machine_heard m (Some f) h).trace ≡ stage.HighAsked b None → h ≡ Silence → U b
-    → m.asked + 1 ≤ n b)
+    → ((b : ℕ) → m.course.purpose ≡ Asking b → stage_of (machine_heard m (Some f) h).trace ≡ stage.HighAsked b None → h ≡ Silence → U b → m.asked + 1 ≤ n b)
     → IsCounted U n m → IsAllowed (machine_heard m (Some f) h) o → IsCounted U n (machine_ordered (machine_heard m (Some f) h) o)
 heard_on U n m h p f o last whole bound was may = go was where
   go : IsCounted U n m → IsCounted U n (machine_ordered (machine_heard m (Some f) h) o)
@@ -134,8 +132,8 @@ heard_on U n m h p f o last whole bound was may = go was where
 
 -- ---------------------------------------------------------------- nothing was heard
 
-lost_on : (U : ℕ → Type 0) (n : ℕ → ℕ) (m t : Machine) (i : Input) (o : Order) → accepts (due_after m.last) i ≡ true → t.course ≡ m.course
-    → t.last ≡ m.last → t.asked ≡ m.asked → t.trace ≡ [] → IsCounted U n m → IsAllowed t o → IsCounted U n (machine_ordered t o)
+lost_on : (U : ℕ → Type 0) (n : ℕ → ℕ) (m t : Machine) (i : Input) (o : Order) → accepts (due_after m.last) i ≡ true → t.course ≡ m.course → t.last ≡ m.last
+    → t.asked ≡ m.asked → t.trace ≡ [] → IsCounted U n m → IsAllowed t o → IsCounted U n (machine_ordered t o)
 lost_on U n m t i o waits course last asked free was may = go was where
   at : stage_of t.trace ≡ stage.Free
   at = ap stage_of free ∙ stage_none
@@ -169,8 +167,8 @@ committed_asked m (Some x) = refl
 -- ONE STEP MORE
 pub counted_on : (U : ℕ → Type 0) (n : ℕ → ℕ) (m : Machine) (i : Input) (o : Order) → accepts (due_after m.last) i ≡ true → IsGiven m i o → IsWhole m
     → ((h : Answer) (f : Forward) → i ≡ input.Heard h → frame_put m.last ≡ Some f → (b : ℕ) → m.course.purpose ≡ Asking b
-    → stage_of (machine_heard m (Some f) h).trace ≡ stage.HighAsked b None → h ≡ Silence → U b → m.asked + 1 ≤ n b)
-    → IsCounted U n m → IsCounted U n (machine_after m i o)
+    → stage_of (machine_heard m (Some f) h).trace ≡ stage.HighAsked b None → h ≡ Silence → U b
+    → m.asked + 1 ≤ n b) → IsCounted U n m → IsCounted U n (machine_after m i o)
 counted_on U n m (input.Heard h) o waits given whole bound was =
     let put = put_is m.last (input.Heard h) refl waits in
     let told : machine_told m (input.Heard h) ≡ machine_heard m (Some put.1) h = ap (λ l. machine_heard m (frame_put l) h) put.2 in

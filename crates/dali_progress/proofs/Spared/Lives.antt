@@ -73,9 +73,8 @@ first_whole id kept = record {
   first = refl;
 }
 
-pub lives_first : (U : ℕ → Type 0) (z : Block) (n : ℕ → ℕ) (k : Controller) (id : ℕ) (kept : Kept) → kept.block ≡ z
-    → ((a : ℕ) → U a → n a < 3) → k.told ≡ Some input.Start → k.last ≡ None
-    → Lives U z n k (at_first id kept)
+pub lives_first : (U : ℕ → Type 0) (z : Block) (n : ℕ → ℕ) (k : Controller) (id : ℕ) (kept : Kept) → kept.block ≡ z → ((a : ℕ) → U a → n a < 3)
+    → k.told ≡ Some input.Start → k.last ≡ None → Lives U z n k (at_first id kept)
 lives_first U z n k id kept block few told last = record {
   steps = [];
   course = tt;
@@ -93,8 +92,7 @@ lives_first U z n k id kept block few told last = record {
 }
 
 pub lives_told : (U : ℕ → Type 0) (z : Block) (n : ℕ → ℕ) (k k' : Controller) (m : Machine) → Lives U z n k m → k'.last ≡ k.last
-    → IsFair U n m.course.opened m.asked k.last k'.told
-    → Lives U z n k' m
+    → IsFair U n m.course.opened m.asked k.last k'.told → Lives U z n k' m
 lives_told U z n k k' m l last told = record {
   steps = l.steps;
   course = l.course;
@@ -126,8 +124,8 @@ fair_more U n n' opened asked last (Some (input.Heard h)) more (f, put, well) = 
 fair_more U n n' opened asked last (Some input.Start) more fair = fair
 fair_more U n n' opened asked last _ more fair = tt
 
-pub lives_more : (U : ℕ → Type 0) (z : Block) (n n' : ℕ → ℕ) (k : Controller) (m : Machine) → ((a : ℕ) → U a → n a ≤ n' a)
-    → ((a : ℕ) → U a → IsFewAt n' m a) → Lives U z n k m → Lives U z n' k m
+pub lives_more : (U : ℕ → Type 0) (z : Block) (n n' : ℕ → ℕ) (k : Controller) (m : Machine) → ((a : ℕ) → U a → n a ≤ n' a) → ((a : ℕ) → U a → IsFewAt n' m a)
+    → Lives U z n k m → Lives U z n' k m
 lives_more U z n n' k m more few l = record {
   steps = l.steps;
   course = l.course;
@@ -169,8 +167,7 @@ told_read : (U : ℕ → Type 0) (z : Block) (n : ℕ → ℕ) (k : Controller) 
     → IsRead (stage_of (machine_told m i).trace)
 told_read U z n k m (input.Heard h) l due =
     let heard = heard_of U z n k m h l due in
-    subst IsRead (sym (stage_heard m h heard.0 heard.1))
-    (next_read (stage_of m.trace) (command_of heard.0) h (read_spelled heard.0) heard.2.1 l.read)
+    subst IsRead (sym (stage_heard m h heard.0 heard.1)) (next_read (stage_of m.trace) (command_of heard.0) h (read_spelled heard.0) heard.2.1 l.read)
 told_read U z n k m input.Start l due = l.read
 told_read U z n k m input.Survey l due = l.read
 told_read U z n k m input.Destroyed l due = free_read
@@ -235,9 +232,9 @@ some_frame : (f g : Forward) → Some f ≡ Some g → f ≡ g
 some_frame f g e = cc
 
 -- a silence that it acts on was counted
-answered : (U : ℕ → Type 0) (z : Block) (n : ℕ → ℕ) (k : Controller) (m : Machine) (h : Answer) (f : Forward) → Lives U z n k m
-    → k.told ≡ Some (input.Heard h) → frame_put m.last ≡ Some f → (a : ℕ) → m.course.purpose ≡ Asking a
-    → stage_of (machine_heard m (Some f) h).trace ≡ stage.HighAsked a None → h ≡ Silence → U a → m.asked + 1 ≤ n a
+answered : (U : ℕ → Type 0) (z : Block) (n : ℕ → ℕ) (k : Controller) (m : Machine) (h : Answer) (f : Forward) → Lives U z n k m → k.told ≡ Some (input.Heard h)
+    → frame_put m.last ≡ Some f → (a : ℕ) → m.course.purpose ≡ Asking a → stage_of (machine_heard m (Some f) h).trace ≡ stage.HighAsked a None → h ≡ Silence
+    → U a → m.asked + 1 ≤ n a
 answered U z n k m h f l due put a purpose at silent used =
     let heard = heard_of U z n k m h l due in
     let same : f ≡ heard.0 = some_frame f heard.0 (sym put ∙ heard.1) in
@@ -248,8 +245,8 @@ answered U z n k m h f l due put a purpose at silent used =
     (question_is m last.0 heard.0 h a purpose last.1 l.whole next) silent
 
 -- how often the address that is asked was silent in a row, if it is asked now
-pub counted_asked : (U : ℕ → Type 0) (z : Block) (n : ℕ → ℕ) (k : Controller) (m : Machine) (f : Forward) (a : ℕ) → Lives U z n k m
-    → frame_put m.last ≡ Some f → command_of f ≡ RandomByte a High → U a → m.asked ≤ n a
+pub counted_asked : (U : ℕ → Type 0) (z : Block) (n : ℕ → ℕ) (k : Controller) (m : Machine) (f : Forward) (a : ℕ) → Lives U z n k m → frame_put m.last ≡ Some f
+    → command_of f ≡ RandomByte a High → U a → m.asked ≤ n a
 counted_asked U z n k m f a l put asks used = go l.counted where
   last : (p : ℕ) × (m.last ≡ Some (Put p f))
   last = put_of_frame m.last f put
@@ -341,10 +338,9 @@ unstarted_unopened m = go m.last where
   go None e w opened = let never : true ≡ false = sym opened ∙ early m w in cc
   go (Some o) e w opened = cc
 
-pub lives_acted : (U : ℕ → Type 0) (z : Block) (n : ℕ → ℕ) (k : Controller) (m : Machine) (i : Input) (o : Order) → ((a : ℕ) → U a → a < 64)
-    → Lives U z n k m → IsDue k i
-    → (i ≡ input.Start → ⊥)
-    → accepts (due_after m.last) i ≡ true → IsGiven m i o → IsWhole (machine_after m i o) → Lives U z n (controller_acted k i o) (machine_after m i o)
+pub lives_acted : (U : ℕ → Type 0) (z : Block) (n : ℕ → ℕ) (k : Controller) (m : Machine) (i : Input) (o : Order) → ((a : ℕ) → U a → a < 64) → Lives U z n k m
+    → IsDue k i → (i ≡ input.Start → ⊥) → accepts (due_after m.last) i ≡ true → IsGiven m i o → IsWhole (machine_after m i o)
+    → Lives U z n (controller_acted k i o) (machine_after m i o)
 lives_acted U z n k m i o below l due unstarted waits given whole = record {
   steps = (record { before = m; told = i; order = o }) ∷ l.steps;
   course = (l.course, record { due = waits; given = given; after = refl });
@@ -354,8 +350,9 @@ lives_acted U z n k m i o below l due unstarted waits given whole = record {
   begun = begun_on m i o l.steps l.begun unstarted waits;
   read = ordered_read (machine_told m i) o (told_read U z n k m i l due);
   unsilent = λ a used silent. go a used silent;
-  counted = counted_on U n m i o waits given l.whole
-      (λ h f is put b purpose at silent used. answered U z n k m h f l (subst (λ j. IsDue k j) is due) put b purpose at silent used) l.counted;
+  counted =
+      counted_on U n m i o waits given l.whole (λ h f is put b purpose at silent used. answered U z n k m h f l
+      (subst (λ j. IsDue k j) is due) put b purpose at silent used) l.counted;
   few = λ a used. few_on a used m.course.opened refl;
   block = told_block m i ∙ l.block;
   last = refl;
@@ -397,8 +394,7 @@ free_reserves : (t : Machine) (a r : ℕ) → stage_of t.trace ≡ stage.Free �
 free_reserves t a r free may = no_reservation t stage.Free a r free (λ n e. cc) may
 
 heard_reserves : (U : ℕ → Type 0) (z : Block) (n : ℕ → ℕ) (k : Controller) (m : Machine) (h : Answer) (a r : ℕ) → Lives U z n k m
-    → k.told ≡ Some (input.Heard h)
-    → ((b : ℕ) → U b → b < 64) → (InBlock z a → U a) → IsGiven m (input.Heard h) (Commit (Reserve a r)) → ⊥
+    → k.told ≡ Some (input.Heard h) → ((b : ℕ) → U b → b < 64) → (InBlock z a → U a) → IsGiven m (input.Heard h) (Commit (Reserve a r)) → ⊥
 heard_reserves U z n k m h a r l due below its given = by l.steps l.course l.plain l.were l.begun l.unsilent where
   heard : (f : Forward) × (frame_put m.last ≡ Some f) × IsWellHeard U n m.course.opened m.asked f h
   heard = heard_of U z n k m h l due
@@ -421,8 +417,7 @@ heard_reserves U z n k m h a r l due below its given = by l.steps l.course l.pla
   next : Machine
   next = machine_after m (input.Heard h) (Commit (Reserve a r))
 
-  by : (steps : List Step) → IsCourse steps m → ArePlain steps → AreWhole steps → HasBegun steps m
-      → ((b : ℕ) → U b → WasSilent steps b → IsSafe m b) → ⊥
+  by : (steps : List Step) → IsCourse steps m → ArePlain steps → AreWhole steps → HasBegun steps m → ((b : ℕ) → U b → WasSilent steps b → IsSafe m b) → ⊥
   by [] course plain were begun unsilent =
       let none : m.last ≡ None = ap (λ (x : Machine). x.last) begun.2 in
       let never : None ≡ Some (Put put.0 heard.0) = sym none ∙ put.1 in cc
@@ -442,8 +437,8 @@ heard_reserves U z n k m h a r l due below its given = by l.steps l.course l.pla
     safe : IsSafe m a → ⊥
     safe (inl ends) = over_ends m.last (input.Heard h) ends waits
     safe (inr counts) =
-        unreserved step next a r taken refl surveyed
-        (accounted_stays step next a small taken (read_plain (stage_told step) (told_read U z n k m (input.Heard h) l due)) counts)
+        unreserved step next a r taken refl surveyed (accounted_stays step next a small taken
+        (read_plain (stage_told step) (told_read U z n k m (input.Heard h) l due)) counts)
 
     go : IsEnded m ⊎ (IsLooked (s ∷ earlier) m a ⊎ IsToCome m a) → ⊥
     go (inl ends) = over_ends m.last (input.Heard h) ends waits

@@ -75,19 +75,22 @@ all_in_time s c a [] run peace used = tt
 all_in_time s c a (e ∷ es) run peace used =
     let none : silences_after c a 0 e ≡ 0 = peace_counts s c a e (e ∷ es) run peace.0 used in (
       (omega (arith, none)),
-      subst (λ n. IsHeardInTime c a n es) (sym none)
-          (all_in_time (site_logged s e) c a es (subst (IsRun s.plan s.queue) (sym (append_assoc s.log (e ∷ []) es)) run) peace.1 used),
+      subst (λ n. IsHeardInTime c a n es) (sym none) (all_in_time (site_logged s e) c a es
+          (subst (IsRun s.plan s.queue) (sym (append_assoc s.log (e ∷ []) es)) run) peace.1 used),
     )
 
 log_after : (s : SiteState) (es : List Event) → (site_after s es).log ≡ s.log ++ es
 log_after s [] = sym (append-nil s.log)
 log_after s (e ∷ es) = log_after (site_logged s e) es ∙ append_assoc s.log (e ∷ []) es
 
-pub unrefused_in_peace : (s : SiteState) (c : ℕ) (es : List Event) (i : Input) → HasJustBegun s c → AreOfCalls s es
-    → IsRun s.plan s.queue (site_after s es).log → AllAskInPeace s c es → IsActRefused (site_after s es) c i refusal.AddressInUse → ⊥
+pub unrefused_in_peace : (s : SiteState) (c : ℕ) (es : List Event) (i : Input) → HasJustBegun s c → AreOfCalls s es → IsRun s.plan s.queue (site_after s es).log
+    → AllAskInPeace s c es → IsActRefused (site_after s es) c i refusal.AddressInUse → ⊥
 unrefused_in_peace s c es i begun are run peace =
-    unrefused s c es i run.plan begun are
-    (all_begin s c es peace, λ a used. all_in_time s c a es (subst (IsRun s.plan s.queue) (log_after s es) run) peace used)
+    unrefused s c es i run.plan begun are (
+      all_begin s c es peace,
+      λ a used. all_in_time s c a es
+          (subst (IsRun s.plan s.queue) (log_after s es) run) peace used,
+    )
 
 -- ---------------------------------------------------------------- if all controllers do so, without the site's refusal
 
@@ -119,8 +122,7 @@ runs_in_peace s (e ∷ es) run l are peace =
     let on : IsRun s.plan s.queue (site_logged s e).log = run_logged s e run are.0 (event_leaves s e (λ c. none_yet) run.plan l are.0 are.1) in
     let whole : IsRun s.plan s.queue (s.log ++ []) = subst (IsRun s.plan s.queue) (sym (append-nil s.log)) run in
     subst (IsRun s.plan s.queue) (append_assoc s.log (e ∷ []) es)
-    (runs_in_peace (site_logged s e) es on
-    (λ c. peaceful s c e run.plan whole are.0 are.1 (peace c).0 (l c)) are.2 (λ c. (peace c).1))
+    (runs_in_peace (site_logged s e) es on (λ c. peaceful s c e run.plan whole are.0 are.1 (peace c).0 (l c)) are.2 (λ c. (peace c).1))
 
 pub run_in_peace : (p : Plan) (queue room : ℕ) (es : List Event) → IsPlan p → AreOfCalls (opened_site p queue room) es
     → ((c : ℕ) → AllAskInPeace (opened_site p queue room) c es) → IsRun p queue es
@@ -128,8 +130,7 @@ run_in_peace p queue room es plan are peace =
     runs_in_peace (opened_site p queue room) es (record { plan = plan; allowed = tt; leaves = tt }) (opened_lived p queue room) are peace
 
 runs_heard : (s : SiteState) (es : List Event) (v : ℕ → ℕ → ℕ) → IsRun s.plan s.queue s.log → ((c : ℕ) → IsLivedAt s c (v c)) → AreOfCalls s es
-    → ((c : ℕ) → AllByRecursion (BeginsBySurveys c) es) → ((c a : ℕ) → IsUsedOf s.plan c a → IsHeardInTime c a (v c a) es)
-    → IsRun s.plan s.queue (s.log ++ es)
+    → ((c : ℕ) → AllByRecursion (BeginsBySurveys c) es) → ((c a : ℕ) → IsUsedOf s.plan c a → IsHeardInTime c a (v c a) es) → IsRun s.plan s.queue (s.log ++ es)
 runs_heard s [] v run l are begin hear = subst (IsRun s.plan s.queue) (sym (append-nil s.log)) run
 runs_heard s (e ∷ es) v run l are begin hear =
     let on : IsRun s.plan s.queue (site_logged s e).log = run_logged s e run are.0 (event_leaves s e v run.plan l are.0 are.1) in
@@ -150,13 +151,13 @@ promise_heard p queue room es plan are hear = keeps_promise p queue es (run_hear
 
 -- ---------------------------------------------------------------- who has just begun
 
-machine_begun : (bs : List Block) (d c : ℕ) → c < length bs → get_or (machines_at d bs) c None
-    ≡ Some (at_first (d + c) (get_or (map controller_begun bs) c nobody).records)
+machine_begun : (bs : List Block) (d c : ℕ) → c < length bs
+    → get_or (machines_at d bs) c None ≡ Some (at_first (d + c) (get_or (map controller_begun bs) c nobody).records)
 machine_begun [] d c there = absurd (omega (arith, there))
 machine_begun (b ∷ bs) d zero there = ap (λ n. Some (at_first n (without_records b))) (let same : d ≡ d + 0 = omega arith in same)
 machine_begun (b ∷ bs) d (suc c) there =
-    machine_begun bs (d + 1) c (omega (arith, there))
-    ∙ ap (λ n. Some (at_first n (get_or (map controller_begun bs) c nobody).records)) (let same : d + 1 + c ≡ d + suc c = omega arith in same)
+    machine_begun bs (d + 1) c (omega (arith, there)) ∙ ap (λ n. Some (at_first n (get_or (map controller_begun bs) c nobody).records))
+    (let same : d + 1 + c ≡ d + suc c = omega arith in same)
 
 told_begun : (bs : List Block) (c : ℕ) → c < length bs
     → ((get_or (map controller_begun bs) c nobody).told ≡ Some input.Start) × ((get_or (map controller_begun bs) c nobody).last ≡ None)
@@ -168,8 +169,9 @@ pub begins_at_start : (p : Plan) (queue room c : ℕ) → c < length p.blocks �
 begins_at_start p queue room c there = record {
   told = (told_begun p.blocks c there).0;
   last = (told_begun p.blocks c there).1;
-  machine = machine_begun p.blocks 0 c there
-      ∙ ap (λ n. Some (at_first n (get_or (map controller_begun p.blocks) c nobody).records)) (let same : 0 + c ≡ c = omega arith in same);
+  machine =
+      machine_begun p.blocks 0 c there ∙ ap (λ n. Some (at_first n (get_or (map controller_begun p.blocks) c nobody).records))
+      (let same : 0 + c ≡ c = omega arith in same);
   block = start_block p.blocks c;
 }
 
@@ -201,8 +203,8 @@ begun_moved w ms c (event.Down d) stays begun =
     (λ m there. absurd (let never : None ≡ Some m = sym (none_set ms d) ∙ there in cc)))
     (λ other m there. begun m (sym (get_or-set_other ms d c None None other) ∙ there))
 begun_moved w ms c (event.Up d kept) stays begun =
-    by_place _ d c (λ same. absurd (stays same))
-    (λ other m there. begun m (sym (get_or-set_other ms d c (Some (at_first d (come_up kept (controller_at w d)).records)) None other) ∙ there))
+    by_place _ d c (λ same. absurd (stays same)) (λ other m there. begun m
+    (sym (get_or-set_other ms d c (Some (at_first d (come_up kept (controller_at w d)).records)) None other) ∙ there))
 begun_moved w ms c _ stays begun = begun
 
 -- the silences are counted on from three, so that none of them counts: each address is safe
@@ -242,8 +244,7 @@ begun_heeds s c v (event.Sent d f h) here l begun many of = λ m there a used. g
 begun_heeds s c v _ here l begun many of = tt
 
 unrefused_on : (s : SiteState) (c : ℕ) (v : ℕ → ℕ) (es : List Event) (i : Input) → IsPlan s.plan → IsLivedAt s c v → HaveBegun (machines s) c → AreMany v
-    → AreOfCalls s es
-    → AllByRecursion (StaysBegun c) es → IsActRefused (site_after s es) c i refusal.AddressInUse → ⊥
+    → AreOfCalls s es → AllByRecursion (StaysBegun c) es → IsActRefused (site_after s es) c i refusal.AddressInUse → ⊥
 unrefused_on s c v [] i plan l begun many are stay refused = unrefused_now s c v i plan l refused
 unrefused_on s c v (e ∷ es) i plan l begun many are stay refused =
     unrefused_on (site_logged s e) c (counts_after c v e) es i plan (heeded_on s c v e plan are.0 are.1 (begun_heeds s c v e are.0 l begun many are.1) l)
@@ -257,21 +258,19 @@ lived_many s c v n has opened l = record {
   block = l.block;
   lives = λ m there. lives_more (IsUsedOf s.plan c) (block_at s.plan c) v (λ a. v a + 3) (controller_at (world s) c) m (λ a used. omega arith)
       (λ a used. inl (λ early. absurd (let is : m.course.opened ≡ true = subst (λ (x : Machine). x.course.opened ≡ true)
-      (some_same n m (sym has ∙ there)) opened in let never : true ≡ false = sym is ∙ early in cc)))
-      (l.lives m there);
+      (some_same n m (sym has ∙ there)) opened in let never : true ≡ false = sym is ∙ early in cc))) (l.lives m there);
 }
 
 begun_opened : (s : SiteState) (c : ℕ) (v : ℕ → ℕ) (n : Machine) → machine_at s c ≡ Some n → n.course.opened ≡ true → IsLivedAt s c v → HaveBegun (machines s) c
 begun_opened s c v n has opened l m there none =
-    unstarted_unopened m none (l.lives m there).whole
-    (subst (λ (x : Machine). x.course.opened ≡ true) (some_same n m (sym has ∙ there)) opened)
+    unstarted_unopened m none (l.lives m there).whole (subst (λ (x : Machine). x.course.opened ≡ true) (some_same n m (sym has ∙ there)) opened)
 
 -- NOR IS ANY LATER ACT REFUSED SO
 pub unrefused_later : (s : SiteState) (c : ℕ) (es more : List Event) (i : Input) → IsPlan s.plan → HasJustBegun s c → AreOfCalls s es → HearsUsed s.plan c es
     → HasAsked (site_after s es) c → AreOfCalls (site_after s es) more → AllByRecursion (StaysBegun c) more
     → IsActRefused (site_after (site_after s es) more) c i refusal.AddressInUse → ⊥
 unrefused_later s c es more i plan begun are hear =
-    lived_all s c none_yet es plan (just_lived s c begun) are hear.0 hear.1
-    (λ t. HasAsked t c → AreOfCalls t more → AllByRecursion (StaysBegun c) more → IsActRefused (site_after t more) c i refusal.AddressInUse → ⊥)
-    (λ t u plan l asked on stay. unrefused_on t c (λ a. u a + 3) more i plan (lived_many t c u asked.0 asked.1 asked.2 l)
+    lived_all s c none_yet es plan (just_lived s c begun) are hear.0 hear.1 (λ t. HasAsked t c → AreOfCalls t more → AllByRecursion (StaysBegun c) more
+    → IsActRefused (site_after t more) c i refusal.AddressInUse
+    → ⊥) (λ t u plan l asked on stay. unrefused_on t c (λ a. u a + 3) more i plan (lived_many t c u asked.0 asked.1 asked.2 l)
     (begun_opened t c u asked.0 asked.1 asked.2 l) (λ a. omega arith) on stay)

@@ -95,8 +95,7 @@ start_acts before w q c m i o left goes good here by known =
           (λ p f h is given none hears. (
             turned before (machine_heard m (Some f) h) o w.gear left given hears.stands kept (put_no_enrolment p f m.last is) hears.running,
             one_more (slack (Some o) None) (slack_one o),
-          ))
-          (λ x is free given none next. (
+          )) (λ x is free given none next. (
             committed before m x o w.gear left next.0 next.1 free is kept.reserved given,
             one_less (slack (Some o) None) (slack_first o (next_course (with_kept m x))
                 (committed_begins before m x o w.gear left next.0 next.1 free is kept.reserved given)),
@@ -124,8 +123,7 @@ never_silent p _ k opened o x n gs left at = refl
 stands_heard : (before : List Gear) (m : Machine) (f : Forward) (h : Answer) (gs : List Gear) (numbers : List ℕ) (left l : ℕ) → Stands before m gs left
     → IsLawful m.trace f → IsTabledTo before (stage_of m.trace) m.course.number m.kept.enrolled gs numbers (command_of f) h
     → At m.course.purpose (next_stage (stage_of m.trace) (command_of f) h) m.kept m.course.opened m.course.search m.course.number
-    (row_after Everyone (command_of f) 0 gs numbers) l
-    → Stands before (machine_heard m (Some f) h) (row_after Everyone (command_of f) 0 gs numbers) l
+    (row_after Everyone (command_of f) 0 gs numbers) l → Stands before (machine_heard m (Some f) h) (row_after Everyone (command_of f) 0 gs numbers) l
 stands_heard before m f h gs numbers left l st lawful tabled at =
     let more : stage_of (m.trace ++ entry f h ∷ []) ≡ next_stage (stage_of m.trace) (command_of f) h = stage_more m.trace (entry f h) in
     record {
@@ -147,18 +145,17 @@ start_sends before w q c m p f h left goes last told here known heard =
     let lone = lone_sent w q c m p f h goes.lone last told in
     let holds : IsNext before m (Put p f) w.gear left = rw (sym goes.lone.last ∙ last, told) at goes.holds in
     let same : w.trace ≡ m.trace = lone.3 in
-    let sent = at_sent m.course.purpose (stage_of m.trace) m.kept m.course.opened m.course.search m.course.number w.gear w.left left
+    let sent =
+    at_sent m.course.purpose (stage_of m.trace) m.kept m.course.opened m.course.search m.course.number w.gear w.left left
     (command_of f) h holds.0.at holds.1 (taken_of w c f h here known heard) (subst (λ t. Seeks (stage_of t) w.gear) same known.seeks) in
-    let tabled = at_tabled before m.course.purpose (stage_of m.trace) m.kept m.course.opened _ m.course.search m.course.number w.gear w.left left sent.0
+    let tabled =
+    at_tabled before m.course.purpose (stage_of m.trace) m.kept m.course.opened _ m.course.search m.course.number w.gear w.left left sent.0
     (command_of f) h holds.0.at holds.1 (subst (λ t. Seeks (stage_of t) w.gear) same known.seeks) sent.2 holds.0.tabled in
     let lawful : IsLawful m.trace f = lawful_now w c m.trace f h lone.2 here in (
       sent.0,
       sent.1,
       tt,
-      record {
-        stands = stands_heard before m f h w.gear w.left left sent.0 holds.0 lawful tabled sent.2;
-        running = not_free m.trace (entry f h);
-      },
+      record { stands = stands_heard before m f h w.gear w.left left sent.0 holds.0 lawful tabled sent.2; running = not_free m.trace (entry f h) },
     )
 
 -- THE FIRST ARGUMENT, its start, and its end.

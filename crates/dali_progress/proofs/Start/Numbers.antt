@@ -70,8 +70,7 @@ none_drawn _ s k opened x n gs left c h at is early closed = absurd at
 
 -- no hunt stands so
 never_hunted : (p : Purpose) (s : Stage) (k : Kept) (opened : Bool) (x : Search) (n : SearchAddress) (gs : List Gear) (left : ℕ) (r : SearchAddress)
-    (h : Answer)
-    (room : ℕ) → At p s k opened x n gs left → s ≡ stage.Hunted r (Some h) room → ⊥
+    (h : Answer) (room : ℕ) → At p s k opened x n gs left → s ≡ stage.Hunted r (Some h) room → ⊥
 never_hunted p s k opened x n gs left r h room at is = go p (subst (λ q. At p q k opened x n gs left) is at) where
   go : (p : Purpose) → At p (stage.Hunted r (Some h) room) k opened x n gs left → ⊥
   go Opening at = at.1.stage_is
@@ -81,8 +80,8 @@ never_hunted p s k opened x n gs left r h room at is = go p (subst (λ q. At p q
   go _ at = at
 
 -- if gear are searched, they are afterwards
-stays_open : (t : Machine) (s : Stage) → t.course.way ≡ Fresh → t.course.opened ≡ true → ((r : SearchAddress) (h : Answer) (room : ℕ)
-    → s ≡ stage.Hunted r (Some h) room → ⊥) → (begins_at t s).opened ≡ true
+stays_open : (t : Machine) (s : Stage) → t.course.way ≡ Fresh → t.course.opened ≡ true
+    → ((r : SearchAddress) (h : Answer) (room : ℕ) → s ≡ stage.Hunted r (Some h) room → ⊥) → (begins_at t s).opened ≡ true
 stays_open t s fresh opened never = go s never where
   on : (goes_on_to t).opened ≡ true
   on = ap (λ (c : Course). c.opened) (goes_on_anew t opened fresh)
@@ -141,8 +140,10 @@ heard_undrawn before t (Put p f) gs left st (inl (first, lawful)) undrawn =
     go t.course.opened refl (subst (λ q. UndrawnAt (machine_ordered t (Put q f))) first undrawn).0 where
       go : (b : Bool) → t.course.opened ≡ b → (next_course t).opened ≡ false → (t.course.opened ≡ false) × (is_complete (stage_of t.trace) ≡ false)
       go true is closed =
-          let opened : (next_course t).opened ≡ true = stays_open t (stage_of t.trace) st.fresh is
-          (λ r h room e. never_hunted t.course.purpose (stage_of t.trace) t.kept t.course.opened t.course.search t.course.number gs left r h room st.at e) in
+          let opened : (next_course t).opened ≡ true =
+          stays_open t (stage_of t.trace) st.fresh is
+          (λ r h room e. never_hunted t.course.purpose (stage_of t.trace)
+          t.kept t.course.opened t.course.search t.course.number gs left r h room st.at e) in
           absurd (let both : true ≡ false = sym opened ∙ closed in cc)
       go false is closed = (is, early_before t (stage_of t.trace) st.fresh closed)
 heard_undrawn before t (Put p f) gs left st (inr (later, runs, lawful)) undrawn =
@@ -168,8 +169,7 @@ commits_opened before m (Reserve a r) gs left v = v.opened
 commits_opened before m (Enrol b r) gs left v = v.opened
 commits_opened before m _ gs left v = absurd v
 
-kept_undrawn : (t : Machine) (o : Order) → t.course.way ≡ Fresh → t.course.opened ≡ true → t.trace ≡ [] → IsAllowed t o
-    → UndrawnAt (machine_ordered t o) → ⊥
+kept_undrawn : (t : Machine) (o : Order) → t.course.way ≡ Fresh → t.course.opened ≡ true → t.trace ≡ [] → IsAllowed t o → UndrawnAt (machine_ordered t o) → ⊥
 kept_undrawn t (Put p f) fresh opened free (inl (first, lawful)) undrawn =
     let at : stage_of t.trace ≡ stage.Free = ap stage_of free ∙ stage_none in
     let here = subst (λ q. UndrawnAt (machine_ordered t (Put q f))) first undrawn in
@@ -194,12 +194,13 @@ acts_has : (before : List Gear) (w : World) (q c : ℕ) (m : Machine) (out : Opt
     → LeavesDraws (machine_after m i o) gs numbers
 acts_has before w q c m out last told i o gs numbers left at is due good allowed holds has =
     acts_by false (λ k t j. Moment w q c m out k t → m.last ≡ k → IsAllowed (machine_told m j) o → Holds before m k t gs left
-    → LeavesDraws (informed_by m t) gs numbers → LeavesDraws (machine_after m j o) gs numbers)
-    (λ at is allowed holds has undrawn. has (undrawn_last m None is tt)) heard keeps w q c m out last told i at due good at is allowed holds has
+    → LeavesDraws (informed_by m t) gs numbers
+    → LeavesDraws (machine_after m j o) gs numbers) (λ at is allowed holds has undrawn. has (undrawn_last m None is tt))
+    heard keeps w q c m out last told i at due good at is allowed holds has
   where
     heard : (p : ℕ) (f : Forward) (h : Answer) → Moment w q c m out (Some (Put p f)) (Some (input.Heard h)) → m.last ≡ Some (Put p f)
-        → IsAllowed (machine_told m (input.Heard h)) o → Hears before m f h gs left
-        → LeavesDraws (informed_by m (Some (input.Heard h))) gs numbers → LeavesDraws (machine_after m (input.Heard h) o) gs numbers
+        → IsAllowed (machine_told m (input.Heard h)) o → Hears before m f h gs left → LeavesDraws (informed_by m (Some (input.Heard h))) gs numbers
+        → LeavesDraws (machine_after m (input.Heard h) o) gs numbers
     heard p f h at is allowed holds has undrawn =
         let told : machine_told m (input.Heard h) ≡ machine_heard m (Some f) h = ap (λ x. machine_heard m (frame_put x) h) is in
         let stands : Stands before (machine_told m (input.Heard h)) gs left = subst (λ t. Stands before t gs left) (sym told) holds.stands in
@@ -207,12 +208,12 @@ acts_has before w q c m out last told i o gs numbers left at is due good allowed
         (heard_undrawn before (machine_told m (input.Heard h)) o gs left stands allowed undrawn))
 
     keeps : (x : Record) → Moment w q c m out (Some (Commit x)) None → m.last ≡ Some (Commit x) → IsAllowed (machine_told m input.Committed) o
-        → Holds before m (Some (Commit x)) None gs left
-        → LeavesDraws (informed_by m None) gs numbers → LeavesDraws (machine_after m input.Committed o) gs numbers
+        → Holds before m (Some (Commit x)) None gs left → LeavesDraws (informed_by m None) gs numbers
+        → LeavesDraws (machine_after m input.Committed o) gs numbers
     keeps x at is allowed holds has undrawn =
         let told : machine_told m input.Committed ≡ with_kept m x = ap (λ l. machine_committed m (record_ordered l)) is in
-        absurd (kept_undrawn (with_kept m x) o holds.0.fresh (commits_opened before m x gs left holds.1) at.1
-        (subst (λ t. IsAllowed t o) told allowed) (subst (λ t. UndrawnAt (machine_ordered t o)) told undrawn))
+        absurd (kept_undrawn (with_kept m x) o holds.0.fresh (commits_opened before m x gs left holds.1) at.1 (subst (λ t. IsAllowed t o) told allowed)
+        (subst (λ t. UndrawnAt (machine_ordered t o)) told undrawn))
 
 has_heard : (m : Machine) (p : ℕ) (f : Forward) (h : Answer) (before : List Gear) (gs : List Gear) (numbers : List ℕ) (left : ℕ) → m.last ≡ Some (Put p f)
     → count_by is_bare (row_after Everyone (command_of f) 0 gs numbers) ≤ count_by is_bare gs → IsNext before m (Put p f) gs left → LeavesDraws m gs numbers
@@ -235,9 +236,8 @@ start_draws before = record {
   stays = record {
     acts = λ s c left l i o u here good given holds has.
         acts_has before (world s) s.queue c u.machine (controller_at (world s) c).outstanding (controller_at (world s) c).last
-        (controller_at (world s) c).told i o
-        (world s).gear (world s).left left u.goes.lone.moment u.goes.lone.last (due_of (controller_at (world s) c) i here.due) good
-        (given_by u.machine i o (not_failed false i good) given).ordered.allowed u.goes.holds has;
+        (controller_at (world s) c).told i o (world s).gear (world s).left left u.goes.lone.moment u.goes.lone.last
+        (due_of (controller_at (world s) c) i here.due) good (given_by u.machine i o (not_failed false i good) given).ordered.allowed u.goes.holds has;
     sends = λ s c left rest p f h u here heard last holds now has.
         has_heard u.machine p f h before (world s).gear (world s).left left last
         (bare_fewer (block_at s.plan c) (world s).gear (row_after Everyone (command_of f) 0 (world s).gear (world s).left) (frame_gives s c f h u.run here))

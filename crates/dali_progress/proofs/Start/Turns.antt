@@ -73,16 +73,16 @@ calm_of before t gs left st = record { tries = st.tries; fresh = st.fresh; silen
 goes_later : (before : List Gear) (t : Machine) (o : Order) (s : Stage) (c : Command) (gs : List Gear) (left : ℕ) → Stands before t gs left
     → stage_of t.trace ≡ s → IsUnasked s t.course.purpose → o ≡ Put LATER (frame_of c) → IsSpelled c
     → Sends t.course.purpose t.course.number t.kept (stage_of t.trace) c → GoesTo before t o gs left
-goes_later before t o s c gs left st at unasked is spelled sends = subst (λ q. GoesTo before t q gs left) (sym is)
-    (subst (λ m. IsNext before m (Put LATER (frame_of c)) gs left) (sym (later_leaves t (frame_of c) s at unasked)) (
+goes_later before t o s c gs left st at unasked is spelled sends =
+    subst (λ q. GoesTo before t q gs left) (sym is) (subst (λ m. IsNext before m (Put LATER (frame_of c)) gs left)
+    (sym (later_leaves t (frame_of c) s at unasked)) (
       record { tries = st.tries; fresh = st.fresh; silent = st.silent; trace = st.trace; within = st.within; tabled = st.tabled; at = st.at },
       subst (λ d. Sends t.course.purpose t.course.number t.kept (stage_of t.trace) d) (sym (read_written c spelled)) sends,
     ))
 
 goes_by : (before : List Gear) (t : Machine) (o : Order) (cs : Course) (gs : List Gear) (left : ℕ) → IsUndisturbed t → AreTabled before t.kept.enrolled gs
-    → o ≡ beginning (next_course t) → next_course t ≡ cs
-    → IsSpelled (first_of cs.purpose cs.number) → At cs.purpose stage.Free t.kept cs.opened cs.search cs.number gs left
-    → GoesTo before t o gs left
+    → o ≡ beginning (next_course t) → next_course t ≡ cs → IsSpelled (first_of cs.purpose cs.number)
+    → At cs.purpose stage.Free t.kept cs.opened cs.search cs.number gs left → GoesTo before t o gs left
 goes_by before t o cs gs left calm tabled is same spelled at = subst (λ q. GoesTo before t q gs left) (sym is) (
   record {
     tries = calm.tries;
@@ -95,8 +95,7 @@ goes_by before t o cs gs left calm tabled is same spelled at = subst (λ q. Goes
         (subst (λ (d : Course). At d.purpose stage.Free t.kept d.opened d.search d.number gs left) (sym same) at);
   },
   subst (λ s. Sends (next_course t).purpose (next_course t).number t.kept s (command_of (frame_of (first_of (next_course t).purpose (next_course t).number))))
-      (sym stage_none)
-      (read_written (first_of (next_course t).purpose (next_course t).number)
+      (sym stage_none) (read_written (first_of (next_course t).purpose (next_course t).number)
       (subst (λ (d : Course). IsSpelled (first_of d.purpose d.number)) (sym same) spelled)),
 )
 
@@ -131,8 +130,8 @@ begins_search c gs left ready unnamed enough = record {
 }
 
 searches_anew : (before : List Gear) (t : Machine) (o : Order) (gs : List Gear) (left : ℕ) → IsUndisturbed t → AreTabled before t.kept.enrolled gs
-    → o ≡ beginning (next_course t) → next_course t ≡ searching_anew t.course
-    → IsOpened gs → NoneNamed gs → search_frames (count_by is_wanted gs) ≤ left → GoesTo before t o gs left
+    → o ≡ beginning (next_course t) → next_course t ≡ searching_anew t.course → IsOpened gs → NoneNamed gs → search_frames (count_by is_wanted gs) ≤ left
+    → GoesTo before t o gs left
 searches_anew before t o gs left calm tabled is same ready unnamed enough =
     goes_by before t o (searching_anew t.course) gs left calm tabled is same tt (refl, begins_search t.course gs left ready unnamed enough)
 
@@ -144,16 +143,14 @@ goes_on_anew t opened fresh = ap (λ b. going_on t.kept b t.course) opened ∙ a
 
 -- its next frame
 turns_later : (before : List Gear) (t : Machine) (o : Order) (p : Purpose) (s : Stage) (c : Command) (gs : List Gear) (left : ℕ) → IsGivenBy t o
-    → Stands before t gs left → t.course.purpose ≡ p → stage_of t.trace ≡ s
-    → turn_of p t.course.number s ≡ Some c → IsSpelled c → Sends p t.course.number t.kept s c → GoesTo before t o gs left
+    → Stands before t gs left → t.course.purpose ≡ p → stage_of t.trace ≡ s → turn_of p t.course.number s ≡ Some c → IsSpelled c
+    → Sends p t.course.number t.kept s c → GoesTo before t o gs left
 turns_later before t o p s c gs left g st purpose is turn spelled sends =
     goes_later before t o s c gs left st is (subst (IsUnasked s) (sym purpose) (turn_unasked p t.course.number s c turn))
-    (given.turns t o c g (rw (purpose, is) turn)) spelled
-    (rw (purpose, is) sends)
+    (given.turns t o c g (rw (purpose, is) turn)) spelled (rw (purpose, is) sends)
 
 opening_turns : (before : List Gear) (t : Machine) (o : Order) (s : Stage) (gs : List Gear) (left : ℕ) → IsGivenBy t o → Stands before t gs left
-    → IsNoEnrolment t.last → t.course.purpose ≡ Opening → stage_of t.trace ≡ s → (s ≡ stage.Free → ⊥)
-    → Opens s gs left → GoesTo before t o gs left
+    → IsNoEnrolment t.last → t.course.purpose ≡ Opening → stage_of t.trace ≡ s → (s ≡ stage.Free → ⊥) → Opens s gs left → GoesTo before t o gs left
 opening_turns before t o stage.Free gs left g st last purpose is running opens = absurd (running refl)
 opening_turns before t o stage.Terminated gs left g st last purpose is running opens =
     turns_later before t o Opening stage.Terminated _ gs left g st purpose is refl tt refl
@@ -168,8 +165,8 @@ opening_turns before t o stage.Opened gs left g st last purpose is running opens
     let enough : 5 + search_frames (count_by is_bare gs) ≤ left + 5 = opens.frames in
     searches_anew before t o gs left (calm_of before t gs left st) (tabled_at before t gs left stage.Opened st is)
     (given.begins_after t o stage.Opened g is tt (found_none before t gs left stage.Opened st is refl) last (never_eight t.tries st.tries))
-    (ap (begins_at t) is ∙ ap (λ y. searching_first y t.course) st.fresh) (opening.opened_is gs opens.gear)
-    (opening.opened_none_named gs opens.gear) (omega (arith, count, enough))
+    (ap (begins_at t) is ∙ ap (λ y. searching_first y t.course) st.fresh) (opening.opened_is gs opens.gear) (opening.opened_none_named gs opens.gear)
+    (omega (arith, count, enough))
 opening_turns before t o _ gs left g st last purpose is running opens = absurd opens.stage_is
 
 -- ---------------------------------------------------------------- a probe that was answered
@@ -207,8 +204,8 @@ nobody_wanted gs none m e =
     omega (arith, none, some)
 
 again_frames : (gs : List Gear) (x : Search) (said : Bool) (left n : ℕ) → IsNarrowing (answered x said) → (answered x said).step ≡ Again
-    → Agrees (wants gs) (answered x said).answers → count_by is_wanted gs ≡ n
-    → probe_frames (length x.answers) n ≤ left + 4 → probe_frames (length (answered x said).answers) n ≤ left + 0
+    → Agrees (wants gs) (answered x said).answers → count_by is_wanted gs ≡ n → probe_frames (length x.answers) n ≤ left + 4
+    → probe_frames (length (answered x said).answers) n ≤ left + 0
 again_frames gs x said left zero narrowing running agrees count enough = absurd (again_some x said (wants gs) narrowing running agrees (nobody_wanted gs count))
 again_frames gs x said left (suc n) narrowing running agrees count enough =
     let more : length (answered x said).answers ≡ length x.answers + 1 = length_more x.answers x.probe said in
@@ -235,8 +232,7 @@ found_wanted gs x r ready narrowing agrees is =
 -- if no gear is left, every gear with power has a short address
 pub all_have : (gs : List Gear) (x : Search) → IsOpened gs → IsNarrowing x → Agrees (wants gs) x.answers → x.step ≡ Nobody → OfPowered gs HasShort
 all_have gs x ready narrowing agrees is =
-    nobody_short gs ready
-    (subst (Says (wants gs)) is (searching.says_least x narrowing (wants gs) (λ m e. wanted.wanted_below gs m ready e) agrees))
+    nobody_short gs ready (subst (Says (wants gs)) is (searching.says_least x narrowing (wants gs) (λ m e. wanted.wanted_below gs m ready e) agrees))
 
 found_frames : (answers n left more : ℕ) → probe_frames answers n ≤ left + 4 → n ≡ suc more → 11 + search_frames more ≤ left + 0
 found_frames answers zero left more enough is = absurd (omega (arith, is))
@@ -248,13 +244,12 @@ close_frames answers (suc n) left enough = omega (arith, enough)
 
 -- what an answer leads to
 pub probed_at : (s : Step) (k : Kept) (c : Course) (said : Bool) (gs : List Gear) (left : ℕ) → (answered c.search said).step ≡ s → IsOpened gs → NoneNamed gs
-    → IsNarrowing (answered c.search said)
-    → Agrees (wants gs) (answered c.search said).answers → probe_frames (length c.search.answers) (count_by is_wanted gs) ≤ left + 4
+    → IsNarrowing (answered c.search said) → Agrees (wants gs) (answered c.search said).answers
+    → probe_frames (length c.search.answers) (count_by is_wanted gs) ≤ left + 4
     → IsSpelled (first_of (after_step s (record c { search = answered c.search said })).purpose
     (after_step s (record c { search = answered c.search said })).number)
     × At (after_step s (record c { search = answered c.search said })).purpose stage.Free k true
-    (after_step s (record c { search = answered c.search said })).search
-    (after_step s (record c { search = answered c.search said })).number gs left
+    (after_step s (record c { search = answered c.search said })).search (after_step s (record c { search = answered c.search said })).number gs left
 probed_at Again k c said gs left is ready unnamed narrowing agrees enough = (
   tt,
   (
@@ -295,8 +290,8 @@ step_opened (Found r) c = refl
 step_opened Nobody c = refl
 
 probing_turns : (before : List Gear) (t : Machine) (o : Order) (s : Stage) (gs : List Gear) (left : ℕ) → IsGivenBy t o → Stands before t gs left
-    → IsNoEnrolment t.last → t.course.purpose ≡ Probing → stage_of t.trace ≡ s → (s ≡ stage.Free → ⊥)
-    → t.course.opened ≡ true → Probes s t.course.search t.course.number gs left → GoesTo before t o gs left
+    → IsNoEnrolment t.last → t.course.purpose ≡ Probing → stage_of t.trace ≡ s → (s ≡ stage.Free → ⊥) → t.course.opened ≡ true
+    → Probes s t.course.search t.course.number gs left → GoesTo before t o gs left
 probing_turns before t o stage.Free gs left g st last purpose is running opened p = absurd (running refl)
 probing_turns before t o (stage.HighSent high) gs left g st last purpose is running opened p =
     turns_later before t o Probing (stage.HighSent high) _ gs left g st purpose is refl tt refl
@@ -312,16 +307,17 @@ probing_turns before t o (stage.Probed r h) gs left g st last purpose is running
     let there = probed_at (answered t.course.search (is_yes h)).step t.kept t.course (is_yes h) gs left refl p.ready p.unnamed narrowing agrees p.frames in
     goes_by before t o (probed t.course h) gs left (calm_of before t gs left st) (tabled_at before t gs left (stage.Probed r h) st is)
     (given.begins_after t o (stage.Probed r h) g is tt (found_none before t gs left (stage.Probed r h) st is refl) last (never_eight t.tries st.tries))
-    (ap (begins_at t) is) there.0
-    (subst (λ b. At (probed t.course h).purpose stage.Free t.kept b (probed t.course h).search (probed t.course h).number gs left)
-    (sym (step_opened (answered t.course.search (is_yes h)).step (record t.course { search = answered t.course.search (is_yes h) }) ∙ opened)) there.1)
+    (ap (begins_at t) is) there.0 (subst (λ b. At (probed t.course h).purpose stage.Free t.kept b (probed t.course h).search
+    (probed t.course h).number gs left) (sym
+    (step_opened (answered t.course.search (is_yes h)).step (record t.course { search = answered t.course.search (is_yes h) }) ∙ opened))
+    there.1)
 probing_turns before t o _ gs left g st last purpose is running opened p = absurd p.stage_is
 
 -- ---------------------------------------------------------------- a visit
 
 unnamed_turns : (before : List Gear) (t : Machine) (o : Order) (r : SearchAddress) (gs : List Gear) (left : ℕ) → IsGivenBy t o → Stands before t gs left
-    → IsKept t.kept → t.course.purpose ≡ Visiting → stage_of t.trace ≡ stage.Unnamed r
-    → t.course.opened ≡ true → Visits (stage.Unnamed r) t.kept t.course.number gs left → GoesTo before t o gs left
+    → IsKept t.kept → t.course.purpose ≡ Visiting → stage_of t.trace ≡ stage.Unnamed r → t.course.opened ≡ true
+    → Visits (stage.Unnamed r) t.kept t.course.number gs left → GoesTo before t o gs left
 unnamed_turns before t o r gs left g st kept purpose is opened v = go (given.unnamed t o r st.fresh g is) where
   same : value_of r ≡ value_of t.course.number
   same = ap value_of (sym v.searched)
@@ -367,8 +363,8 @@ no_contradiction k b n kept within has (inr is) =
     (within (is.0, n) is.1) has refl))
 
 withdrawn_turns : (before : List Gear) (t : Machine) (o : Order) (r : SearchAddress) (a : ℕ) (gs : List Gear) (left : ℕ) → IsGivenBy t o
-    → Stands before t gs left → IsKept t.kept → t.course.purpose ≡ Visiting → stage_of t.trace ≡ stage.Withdrawn r a
-    → t.course.opened ≡ true → Leaves r a t.kept t.course.number gs left → GoesTo before t o gs left
+    → Stands before t gs left → IsKept t.kept → t.course.purpose ≡ Visiting → stage_of t.trace ≡ stage.Withdrawn r a → t.course.opened ≡ true
+    → Leaves r a t.kept t.course.number gs left → GoesTo before t o gs left
 withdrawn_turns before t o r a gs left g st kept purpose is opened v = go o g (g.ordered.found r a is) where
   reserved : Has t.kept.reserved (a, value_of r)
   reserved = subst (λ (m : SearchAddress). Has t.kept.reserved (a, value_of m)) (sym v.searched) v.reserved
@@ -390,8 +386,8 @@ withdrawn_turns before t o r a gs left g st kept purpose is opened v = go o g (g
   go (Halt why) g has = absurd (no_contradiction t.kept a (value_of r) kept st.within reserved has)
 
 visiting_turns : (before : List Gear) (t : Machine) (o : Order) (s : Stage) (gs : List Gear) (left : ℕ) → IsGivenBy t o → Stands before t gs left
-    → IsKept t.kept → t.course.purpose ≡ Visiting → stage_of t.trace ≡ s → (s ≡ stage.Free → ⊥)
-    → t.course.opened ≡ true → VisitsAt s t.kept t.course.number gs left → GoesTo before t o gs left
+    → IsKept t.kept → t.course.purpose ≡ Visiting → stage_of t.trace ≡ s → (s ≡ stage.Free → ⊥) → t.course.opened ≡ true
+    → VisitsAt s t.kept t.course.number gs left → GoesTo before t o gs left
 visiting_turns before t o stage.Free gs left g st kept purpose is running opened v = absurd (running refl)
 visiting_turns before t o (stage.HighSent high) gs left g st kept purpose is running opened v =
     turns_later before t o Visiting (stage.HighSent high) _ gs left g st purpose is refl tt refl
@@ -411,8 +407,7 @@ visiting_turns before t o _ gs left g st kept purpose is running opened v = absu
 -- ---------------------------------------------------------------- the close
 
 closing_turns : (before : List Gear) (t : Machine) (o : Order) (e : End) (s : Stage) (gs : List Gear) (left : ℕ) → IsGivenBy t o → Stands before t gs left
-    → t.course.purpose ≡ Closing e → stage_of t.trace ≡ s → (s ≡ stage.Free → ⊥)
-    → Closes e s t.kept gs left → GoesTo before t o gs left
+    → t.course.purpose ≡ Closing e → stage_of t.trace ≡ s → (s ≡ stage.Free → ⊥) → Closes e s t.kept gs left → GoesTo before t o gs left
 closing_turns before t o e stage.Free gs left g st purpose is running v = absurd (running refl)
 closing_turns before t o e stage.Terminated gs left g st purpose is running v =
     let ends : o ≡ Done e =
@@ -426,8 +421,7 @@ closing_turns before t o e _ gs left g st purpose is running v = absurd v.stage_
 pub turned : (before : List Gear) (t : Machine) (o : Order) (gs : List Gear) (left : ℕ) → IsGivenBy t o → Stands before t gs left → IsKept t.kept
     → IsNoEnrolment t.last → (stage_of t.trace ≡ stage.Free → ⊥) → GoesTo before t o gs left
 turned before t o gs left g st kept last running = go t.course.purpose refl st.at where
-  go : (p : Purpose) → t.course.purpose ≡ p → At p (stage_of t.trace) t.kept t.course.opened t.course.search t.course.number gs left
-      → GoesTo before t o gs left
+  go : (p : Purpose) → t.course.purpose ≡ p → At p (stage_of t.trace) t.kept t.course.opened t.course.search t.course.number gs left → GoesTo before t o gs left
   go Opening purpose at = opening_turns before t o (stage_of t.trace) gs left g st last purpose refl running at.1
   go Probing purpose at = probing_turns before t o (stage_of t.trace) gs left g st last purpose refl running at.0 at.1
   go Visiting purpose at = visiting_turns before t o (stage_of t.trace) gs left g st kept purpose refl running at.0 at.1
@@ -453,8 +447,7 @@ started before t o gs left g calm tabled free last none unopened purpose enough 
     let next : next_course t ≡ opening_of t.course =
     ap (begins_at t) stage ∙ ap (at_rest t) last ∙ goes_on_fresh t calm.fresh unopened
     ∙ ap (visit_or_opening t.course) (nothing_unfinished t.kept (64 - t.course.from) t.course.from none) in
-    goes_by before t o (opening_of t.course) gs left calm tabled
-    (started_begins t o g calm free last)
+    goes_by before t o (opening_of t.course) gs left calm tabled (started_begins t o g calm free last)
     next tt (unopened, record { stage_is = tt; gear = λ k in_row on. tt; frames = omega (arith, enough) })
 
 -- ---------------------------------------------------------------- a record that is kept
@@ -469,46 +462,41 @@ within_enrolled k b r within reserved x has = go (has_cases k.enrolled (b, r) x 
   go (inr e) = subst (Has k.reserved) e reserved
 
 reserved_next : (before : List Gear) (m : Machine) (a r : ℕ) (o : Order) (gs : List Gear) (left : ℕ) → IsUndisturbed m → Reserves before m r gs left
-    → m.trace ≡ []
-    → m.last ≡ Some (Commit (Reserve a r))
-    → IsGivenBy (with_kept m (Reserve a r)) o → GoesTo before (with_kept m (Reserve a r)) o gs left
+    → m.trace ≡ [] → m.last ≡ Some (Commit (Reserve a r)) → IsGivenBy (with_kept m (Reserve a r)) o → GoesTo before (with_kept m (Reserve a r)) o gs left
 reserved_next before m a r o gs left calm v free last g =
     let stage : stage_of m.trace ≡ stage.Free = ap stage_of free ∙ stage_none in
     let t : Machine = with_kept m (Reserve a r) in
     goes_by before (with_kept m (Reserve a r)) o (visiting m.course r) gs left
     (record { tries = calm.tries; fresh = calm.fresh; silent = calm.silent; within = within_reserved m.kept a r calm.within }) v.tabled
-    (reserved_begins m a r o calm.tries free last g)
-    (ap (begins_at (with_kept m (Reserve a r))) stage ∙ ap (at_rest (with_kept m (Reserve a r))) last) tt (
+    (reserved_begins m a r o calm.tries free last g) (ap (begins_at (with_kept m (Reserve a r))) stage ∙ ap (at_rest (with_kept m (Reserve a r))) last)
+    tt (
       v.opened,
       visits_first (with_record m.kept (Reserve a r)) r v.more gs left v.ready v.unnamed v.wanted v.drawn v.count
           (frames_reserved m.kept a r v.more left v.frames),
     )
 
 enrolled_next : (before : List Gear) (m : Machine) (b r : ℕ) (o : Order) (gs : List Gear) (left : ℕ) → IsUndisturbed m → Enrols before m b r gs left
-    → m.trace ≡ []
-    → m.last ≡ Some (Commit (Enrol b r)) → IsMap m.kept.reserved
-    → IsGivenBy (with_kept m (Enrol b r)) o → GoesTo before (with_kept m (Enrol b r)) o gs left
+    → m.trace ≡ [] → m.last ≡ Some (Commit (Enrol b r)) → IsMap m.kept.reserved → IsGivenBy (with_kept m (Enrol b r)) o
+    → GoesTo before (with_kept m (Enrol b r)) o gs left
 enrolled_next before m b r o gs left calm v free last map g =
     let stage : stage_of m.trace ≡ stage.Free = ap stage_of free ∙ stage_none in
     searches_anew before (with_kept m (Enrol b r)) o gs left
     (record { tries = calm.tries; fresh = calm.fresh; silent = calm.silent; within = within_enrolled m.kept b r calm.within v.reserved })
     (tabled_over before ((b, r) ∷ m.kept.enrolled) (m.kept.enrolled ++ (b, r) ∷ []) gs (entry_last m.kept.enrolled (b, r)) v.tabled)
     (enrolled_begins m b r o v.reserved free last map g)
-    (ap (begins_at (with_kept m (Enrol b r))) stage ∙ ap (at_rest (with_kept m (Enrol b r))) last ∙ goes_on_anew (with_kept m (Enrol b r)) v.opened calm.fresh)
+    (ap (begins_at (with_kept m (Enrol b r))) stage ∙ ap (at_rest (with_kept m (Enrol b r))) last
+    ∙ goes_on_anew (with_kept m (Enrol b r)) v.opened calm.fresh)
     v.ready v.unnamed v.frames
 
 pub committed : (before : List Gear) (m : Machine) (x : Record) (o : Order) (gs : List Gear) (left : ℕ) → IsUndisturbed m → CommitsTo before m x gs left
-    → m.trace ≡ []
-    → m.last ≡ Some (Commit x) → IsMap m.kept.reserved
-    → IsGivenBy (with_kept m x) o → GoesTo before (with_kept m x) o gs left
+    → m.trace ≡ [] → m.last ≡ Some (Commit x) → IsMap m.kept.reserved → IsGivenBy (with_kept m x) o → GoesTo before (with_kept m x) o gs left
 committed before m (Reserve a r) o gs left calm v free last map g = reserved_next before m a r o gs left calm v free last g
 committed before m (Enrol b r) o gs left calm v free last map g = enrolled_next before m b r o gs left calm v free last map g
 committed before m _ o gs left calm v free last map g = absurd v
 
 -- a frame is put then
 pub committed_begins : (before : List Gear) (m : Machine) (x : Record) (o : Order) (gs : List Gear) (left : ℕ) → IsUndisturbed m → CommitsTo before m x gs left
-    → m.trace ≡ [] → m.last ≡ Some (Commit x) → IsMap m.kept.reserved
-    → IsGivenBy (with_kept m x) o → o ≡ beginning (next_course (with_kept m x))
+    → m.trace ≡ [] → m.last ≡ Some (Commit x) → IsMap m.kept.reserved → IsGivenBy (with_kept m x) o → o ≡ beginning (next_course (with_kept m x))
 committed_begins before m (Reserve a r) o gs left calm v free last map g = reserved_begins m a r o calm.tries free last g
 committed_begins before m (Enrol b r) o gs left calm v free last map g = enrolled_begins m b r o v.reserved free last map g
 committed_begins before m _ o gs left calm v free last map g = absurd v

@@ -23,8 +23,7 @@ down_known w c up = subst (λ n. c < n) (sym (length-set w.controllers c (gone_d
 down_is : (w : World) (c : ℕ) → IsUp w c → IsDown (happens w (event.Down c)) c
 down_is w c up = record { known = down_known w c up; down = ap (λ (k : Controller). k.up) (down_there w c up) }
 
-up_there : (w : World) (c : ℕ) → c < length w.controllers
-    → controller_at (happens w (event.Up c false)) c ≡ come_up false (controller_at w c)
+up_there : (w : World) (c : ℕ) → c < length w.controllers → controller_at (happens w (event.Up c false)) c ≡ come_up false (controller_at w c)
 up_there w c known = get_or-set_same w.controllers c (come_up false (controller_at w c)) nobody known
 
 -- the controller once it is up again
@@ -59,8 +58,7 @@ machine_again s c m there up =
   where
     within : c < length (machines (site_logged s (event.Down c)))
     within =
-        subst (λ n. c < n) (sym (ap length (machines_logged s (event.Down c)) ∙ length-set (machines s) c None))
-        (some_within (machines s) c m there)
+        subst (λ n. c < n) (sym (ap length (machines_logged s (event.Down c)) ∙ length-set (machines s) c None)) (some_within (machines s) c m there)
 
     kept : controller_at (world (site_logged s (event.Down c))) c ≡ gone_down (controller_at (world s) c)
     kept = ap (λ w. controller_at w c) (world_logged s (event.Down c)) ∙ down_there (world s) c up
@@ -131,8 +129,7 @@ sent_keeps w c f h up none = (
 )
 
 event_keeps : (start : Begun) (s : SiteState) (c left : ℕ) (e : Event) → Runs (of_survey start) s c left → Allowed (world s) e → IsOfRound true s c e
-    → CommitsNothing e
-    → IsNone (controller_at (world s) c).last → Keeps (world s) (happens (world s) e) c
+    → CommitsNothing e → IsNone (controller_at (world s) c).last → Keeps (world s) (happens (world s) e) c
 event_keeps start s c left (event.Acted d i o) u here of quiet none =
     subst (λ n. Allowed (world s) (event.Acted n i o) → Keeps (world s) (happens (world s) (event.Acted n i o)) c) (sym of.0)
     (λ now. acted_keeps (world s) c i o now.up none now.due (λ x is. quiet d i x (ap (λ q. event.Acted d i q) is))) here
@@ -142,8 +139,8 @@ event_keeps start s c left (event.Sent d f h) u here of quiet none =
 event_keeps start s c left _ u here of quiet none = absurd of
 
 all_keep : (start : Begun) (s : SiteState) (c left : ℕ) (es : List Event) → Runs (of_survey start) s c left → Rounds true s c es
-    → AllByRecursion CommitsNothing es
-    → IsNone (controller_at (world s) c).last → (controller_at (world (site_after s es)) c).records ≡ (controller_at (world s) c).records
+    → AllByRecursion CommitsNothing es → IsNone (controller_at (world s) c).last
+    → (controller_at (world (site_after s es)) c).records ≡ (controller_at (world s) c).records
 all_keep start s c left [] u rounds quiet none = refl
 all_keep start s c left (e ∷ es) u rounds quiet none =
     let on = runs_on (of_survey start) (argument start) s c left e u rounds.0 rounds.1 in
@@ -156,5 +153,4 @@ pub quiet_tabled : (s : SiteState) (c : ℕ) (es : List Event) (e : End) → IsA
 quiet_tabled s c es e a rounds quiet ended =
     subst (λ (k : Kept). NamesAll true s k.enrolled (site_after s es))
     (all_keep (began_at s c) s c (most_frames BySurvey (bare s)) es (starts s c a) rounds quiet
-    (λ x is. (let never : None ≡ Some (Commit x) = sym a.last ∙ is in cc)))
-    (named BySurvey s c es e a rounds ended)
+    (λ x is. (let never : None ≡ Some (Commit x) = sym a.last ∙ is in cc))) (named BySurvey s c es e a rounds ended)

@@ -109,14 +109,14 @@ rises_untold (stage.Hunted r None room) x n gs left unasked v = rises_so (stage.
 rises_untold (stage.Hunted r (Some h) room) x n gs left unasked v = absurd unasked
 rises_untold _ x n gs left unasked v = absurd v.stage_is
 
-hunt_untold : (p : Purpose) (s : Stage) (k : Kept) (x : Ascent) (n : SearchAddress) (gs : List Gear) (left : ℕ) → IsUnasked s p
-    → HuntAt true p s k x n gs left → HuntAt false p s k x n gs left
+hunt_untold : (p : Purpose) (s : Stage) (k : Kept) (x : Ascent) (n : SearchAddress) (gs : List Gear) (left : ℕ) → IsUnasked s p → HuntAt true p s k x n gs left
+    → HuntAt false p s k x n gs left
 hunt_untold Hunting s k x n gs left unasked at = rises_untold s x n gs left unasked at
 hunt_untold Visiting s k x n gs left unasked at = at
 hunt_untold _ s k x n gs left unasked at = absurd at
 
-hunts_untold : (p : Purpose) (s : Stage) (k : Kept) (heard : Shorts) (c : Course) (start : Begun)
-    (gs : List Gear) (left : ℕ) → IsUnasked s p → Hunts true p s k heard c start gs left → Hunts false p s k heard c start gs left
+hunts_untold : (p : Purpose) (s : Stage) (k : Kept) (heard : Shorts) (c : Course) (start : Begun) (gs : List Gear) (left : ℕ) → IsUnasked s p
+    → Hunts true p s k heard c start gs left → Hunts false p s k heard c start gs left
 hunts_untold p s k heard c start gs left unasked v = record {
   hunted = v.hunted;
   called = v.called;
@@ -140,8 +140,8 @@ untold _ s k heard asked c start gs left unasked at = at
 
 pub later_by : (start : Begun) (t : Machine) (o : Order) (s : Stage) (f : Forward) (gs : List Gear) (left : ℕ) → SurveyStands true start t gs left
     → o ≡ Put LATER f → stage_of t.trace ≡ s → IsUnasked s t.course.purpose → GoesTo start t o gs left
-later_by start t o s f gs left st is at unasked = subst (λ q. GoesTo start t q gs left) (sym is)
-    (subst (λ m. IsNext start m (Put LATER f) gs left) (sym (later_leaves t f s at unasked)) (
+later_by start t o s f gs left st is at unasked =
+    subst (λ q. GoesTo start t q gs left) (sym is) (subst (λ m. IsNext start m (Put LATER f) gs left) (sym (later_leaves t f s at unasked)) (
       record {
         calm = st.calm;
         trace = st.trace;
@@ -152,23 +152,21 @@ later_by start t o s f gs left st is at unasked = subst (λ q. GoesTo start t q 
     ))
 
 pub turns_by : (start : Begun) (t : Machine) (o : Order) (p : Purpose) (s : Stage) (c : Command) (gs : List Gear) (left : ℕ) → IsGivenBy t o
-    → SurveyStands true start t gs left → t.course.purpose ≡ p → stage_of t.trace ≡ s → turn_of p t.course.number s ≡ Some c
-    → GoesTo start t o gs left
+    → SurveyStands true start t gs left → t.course.purpose ≡ p → stage_of t.trace ≡ s → turn_of p t.course.number s ≡ Some c → GoesTo start t o gs left
 turns_by start t o p s c gs left g st purpose at turn =
     later_by start t o s (frame_of c) gs left st (given.turns t o c g (rw (purpose, at) turn)) at
     (subst (IsUnasked s) (sym purpose) (turn_unasked p t.course.number s c turn))
 
-pub first_by : (start : Begun) (t : Machine) (o : Order) (cs : Course) (gs : List Gear) (left : ℕ) → Calm t → o ≡ beginning (next_course t)
-    → next_course t ≡ cs → IsSmooth cs → SurveyAt false cs.purpose stage.Free t.kept t.heard (asked_by cs.opened t.asked) cs start gs left
-    → GoesTo start t o gs left
+pub first_by : (start : Begun) (t : Machine) (o : Order) (cs : Course) (gs : List Gear) (left : ℕ) → Calm t → o ≡ beginning (next_course t) → next_course t ≡ cs
+    → IsSmooth cs → SurveyAt false cs.purpose stage.Free t.kept t.heard (asked_by cs.opened t.asked) cs start gs left → GoesTo start t o gs left
 first_by start t o cs gs left calm is same smooth at =
     subst (λ q. GoesTo start t q gs left) (sym is) (
       record {
         calm = record { untried = calm.untried; loud = calm.loud; smooth = subst IsSmooth (sym same) smooth };
         trace = subst (λ s. IsTrace s []) (sym stage_none) trace_none;
         at = subst (λ s. SurveyAt false (next_course t).purpose s t.kept t.heard (asked_by (next_course t).opened t.asked) (next_course t) start gs left)
-            (sym stage_none)
-            (subst (λ (d : Course). SurveyAt false d.purpose stage.Free t.kept t.heard (asked_by d.opened t.asked) d start gs left) (sym same) at);
+            (sym stage_none) (subst (λ (d : Course). SurveyAt false d.purpose stage.Free t.kept t.heard (asked_by d.opened t.asked) d start gs left)
+            (sym same) at);
       },
       inr refl,
     )
@@ -230,8 +228,7 @@ clear_reserved k heard a r clear free c q has = go (has_cases k.reserved (a, r) 
 pub nobody_elses : (k : Kept) (heard : Shorts) (gs : List Gear) → IsTrue k.enrolled gs → AreOwned k.reserved gs → IsClear k heard → (a r : ℕ)
     → Has k.reserved (a, r) → is_anothers k heard a r ≡ false
 nobody_elses k heard gs holds owned clear a r has =
-    not_both (has_short heard a) (is_another r (number_at k.enrolled a)) (clear a r has)
-    (go (number_at k.enrolled a) (found_number k.enrolled a)) where
+    not_both (has_short heard a) (is_another r (number_at k.enrolled a)) (clear a r has) (go (number_at k.enrolled a) (found_number k.enrolled a)) where
       same : (m n : ℕ) → m ≡ n → not (m == n) ≡ false
       same m n e = grind (arith, nat_tests, e)
 
@@ -244,8 +241,8 @@ nobody_elses k heard gs holds owned clear a r has =
 taken_at : (k : Kept) (heard : Shorts) (a : ℕ) → is_open k heard a ≡ false → HasAddress k.reserved a ⊎ (HasAddress k.enrolled a ⊎ (has_short heard a ≡ true))
 taken_at k heard a is =
     go (number_at k.reserved a) (found_number k.reserved a) (number_at k.enrolled a) (found_number k.enrolled a) (has_short heard a) refl is where
-      go : (o : Option ℕ) → MatchOption o (HasAddress k.reserved a → ⊥) (λ r. Has k.reserved (a, r))
-          → (p : Option ℕ) → MatchOption p (HasAddress k.enrolled a → ⊥) (λ r. Has k.enrolled (a, r)) → (b : Bool) → has_short heard a ≡ b
+      go : (o : Option ℕ) → MatchOption o (HasAddress k.reserved a → ⊥) (λ r. Has k.reserved (a, r)) → (p : Option ℕ)
+          → MatchOption p (HasAddress k.enrolled a → ⊥) (λ r. Has k.enrolled (a, r)) → (b : Bool) → has_short heard a ≡ b
           → (not (is_some o) && not (is_some p) && not b) ≡ false → HasAddress k.reserved a ⊎ (HasAddress k.enrolled a ⊎ (has_short heard a ≡ true))
       go (Some r) has p said b marked e = inl (has_map (λ (q : Assignment). q.0) k.reserved (a, r) has)
       go None none (Some r) has b marked e = inr (inl (has_map (λ (q : Assignment). q.0) k.enrolled (a, r) has))
@@ -319,10 +316,8 @@ asked_none true n none = refl
 asked_none false n none = none
 
 pub asks_on : (start : Begun) (t : Machine) (o : Order) (f : ℕ) (gs : List Gear) (left : ℕ) → Calm t → o ≡ beginning (next_course t)
-    → next_course t ≡ goes_on_to t → IsUncalled t.course → t.asked ≡ 0 → t.course.from ≡ f → f ≤ 64
-    → (IsSettled start.kept → IsSettled t.kept)
-    → IsClear t.kept t.heard → OneShort gs → IsTrue t.kept.enrolled gs → SameCore start.gear gs
-    → TabledBelow f start.gear t.kept.enrolled gs
+    → next_course t ≡ goes_on_to t → IsUncalled t.course → t.asked ≡ 0 → t.course.from ≡ f → f ≤ 64 → (IsSettled start.kept → IsSettled t.kept)
+    → IsClear t.kept t.heard → OneShort gs → IsTrue t.kept.enrolled gs → SameCore start.gear gs → TabledBelow f start.gear t.kept.enrolled gs
     → 3 * (64 - f) + survey_frames gs ≤ left → GoesTo start t o gs left
 asks_on start t o f gs left calm is next uncalled asked from few settled clear one holds same tabled enough =
     go (next_asked t.kept f) course (asked_later t.kept (64 - f) f) (asked_before t.kept (64 - f) f) (asked_within t.kept (64 - f) f) where
@@ -331,10 +326,9 @@ asks_on start t o f gs left calm is next uncalled asked from few settled clear o
           next ∙ ap (λ b. going_on t.kept b t.course) uncalled.unopened ∙ ap (λ y. going_on_early t.kept y t.course) calm.smooth.way
           ∙ ap (λ n. ask_or_call t.course (next_asked t.kept n)) from
 
-      go : (p : Option ℕ) → next_course t ≡ ask_or_call t.course p
-          → (p ≡ None → (c : ℕ) → f ≤ c → c < f + (64 - f) → is_asked t.kept c ≡ false)
-          → ((d : ℕ) → p ≡ Some d → (c : ℕ) → f ≤ c → c < d → is_asked t.kept c ≡ false)
-          → ((d : ℕ) → p ≡ Some d → (f ≤ d) × (d < f + (64 - f))) → GoesTo start t o gs left
+      go : (p : Option ℕ) → next_course t ≡ ask_or_call t.course p → (p ≡ None → (c : ℕ) → f ≤ c → c < f + (64 - f) → is_asked t.kept c ≡ false)
+          → ((d : ℕ) → p ≡ Some d → (c : ℕ) → f ≤ c → c < d → is_asked t.kept c ≡ false) → ((d : ℕ) → p ≡ Some d → (f ≤ d) × (d < f + (64 - f)))
+          → GoesTo start t o gs left
       go (Some d) at none before within =
           let there = within d refl in
           let low : f ≤ d = there.0 in
@@ -349,8 +343,7 @@ asks_on start t o f gs left calm is next uncalled asked from few settled clear o
               settled = settled;
               same = same;
               count = inl unasked;
-              tabled = below_named f d start.gear t.kept.enrolled gs one holds tabled
-                  (λ c past under. unasked_enrolled t.kept c (before d refl c past under));
+              tabled = below_named f d start.gear t.kept.enrolled gs one holds tabled (λ c past under. unasked_enrolled t.kept c (before d refl c past under));
               frames = count (survey_frames gs) d (asked_by t.course.opened t.asked) low small unasked enough;
             },
           )
@@ -358,8 +351,7 @@ asks_on start t o f gs left calm is next uncalled asked from few settled clear o
           count : (rest d asked : ℕ) → f ≤ d → d < 64 → asked ≡ 0 → 3 * (64 - f) + rest ≤ left → 3 * (63 - d) + (3 - asked) + rest ≤ left
           count rest d asked low small none enough = omega (arith, low, small, none, enough)
       go None at none before within =
-          first_by start t o (calling_first t.course) gs left calm is at calm.smooth
-          (record {
+          first_by start t o (calling_first t.course) gs left calm is at calm.smooth (record {
             opened_is = refl;
             roll = roll_first gs;
             quiet = λ silent. absurd (let both : true ≡ false = sym silent ∙ uncalled.loud in cc);
@@ -384,11 +376,9 @@ no_surplus rest after left enough = omega (arith, enough)
 pub hunts_by : (start : Begun) (t : Machine) (o : Order) (cs : Course) (rest : ℕ) (gs : List Gear) (left : ℕ) → Calm t → o ≡ beginning (next_course t)
     → next_course t ≡ hunting cs → IsSmooth cs → IsHunted cs gs → IsCalledFor Hunting cs.ascent gs → IsClear t.kept t.heard
     → (IsSettled start.kept → IsSettled t.kept) → Rises false stage.Free cs.ascent (sought (asked_next cs.ascent)) (those_drawn gs) rest
-    → AreTabled (unseen start.gear) t.kept.enrolled (those_drawn gs)
-    → rest + frames_after Hunting cs.ascent gs ≤ left → GoesTo start t o gs left
+    → AreTabled (unseen start.gear) t.kept.enrolled (those_drawn gs) → rest + frames_after Hunting cs.ascent gs ≤ left → GoesTo start t o gs left
 hunts_by start t o cs rest gs left calm is next smooth hunted called clear settled rises tabled frames =
-    first_by start t o (hunting cs) gs left calm is next smooth
-    (record {
+    first_by start t o (hunting cs) gs left calm is next smooth (record {
       hunted = hunted;
       called = called;
       clear = clear;
@@ -403,17 +393,15 @@ hunts_by start t o cs rest gs left calm is next smooth hunted called clear settl
 
 -- from the least number on
 pub hunts_first : (start : Begun) (t : Machine) (o : Order) (cs : Course) (gs : List Gear) (left : ℕ) → Calm t → o ≡ beginning (next_course t)
-    → next_course t ≡ hunting_first cs → IsSmooth cs → IsHunted cs gs → 0 < count_by is_bare gs
-    → IsClear t.kept t.heard → (IsSettled start.kept → IsSettled t.kept) → IsOpened (those_drawn gs) → NoneNamed (those_drawn gs)
+    → next_course t ≡ hunting_first cs → IsSmooth cs → IsHunted cs gs → 0 < count_by is_bare gs → IsClear t.kept t.heard
+    → (IsSettled start.kept → IsSettled t.kept) → IsOpened (those_drawn gs) → NoneNamed (those_drawn gs)
     → AreTabled (unseen start.gear) t.kept.enrolled (those_drawn gs)
-    → 106 * count_by is_wanted (those_drawn gs) + 10
-    + hunted_after (count_by is_wanted (those_drawn gs)) (count_by is_lost gs) ≤ left
+    → 106 * count_by is_wanted (those_drawn gs) + 10 + hunted_after (count_by is_wanted (those_drawn gs)) (count_by is_lost gs) ≤ left
     → GoesTo start t o gs left
 hunts_first start t o cs gs left calm is next smooth hunted some clear settled ready unnamed tabled frames =
     hunts_by start t o (record cs { ascent = ascent_at_first }) (106 * count_by is_wanted (those_drawn gs) + 10) gs left calm is next
-    smooth hunted (λ none. some) clear settled
-    (rises_first (those_drawn gs) (106 * count_by is_wanted (those_drawn gs) + 10) ready unnamed (omega arith)) tabled
-    (subst (λ n. 106 * count_by is_wanted (those_drawn gs) + 10 + hunted_after n (count_by is_lost gs) ≤ left)
+    smooth hunted (λ none. some) clear settled (rises_first (those_drawn gs) (106 * count_by is_wanted (those_drawn gs) + 10) ready unnamed (omega arith))
+    tabled (subst (λ n. 106 * count_by is_wanted (those_drawn gs) + 10 + hunted_after n (count_by is_lost gs) ≤ left)
     (no_more (count_by is_wanted (those_drawn gs))) frames)
   where
     no_more : (n : ℕ) → n ≡ 0 + n
@@ -421,20 +409,18 @@ hunts_first start t o cs gs left calm is next smooth hunted some clear settled r
 
 -- and above who was found
 pub hunts_on : (start : Begun) (t : Machine) (o : Order) (r : ℕ) (gs : List Gear) (left : ℕ) → Calm t → o ≡ beginning (next_course t)
-    → next_course t ≡ goes_on_to t → IsHunted t.course gs → IsClear t.kept t.heard
-    → (IsSettled start.kept → IsSettled t.kept) → Above t.course.ascent r (those_drawn gs) → IsOpened (those_drawn gs)
-    → NoneNamed (those_drawn gs) → AreTabled (unseen start.gear) t.kept.enrolled (those_drawn gs)
-    → 106 * count_by is_wanted (those_drawn gs) + 32 + called_after (count_by is_lost gs) ≤ left
-    → GoesTo start t o gs left
+    → next_course t ≡ goes_on_to t → IsHunted t.course gs → IsClear t.kept t.heard → (IsSettled start.kept → IsSettled t.kept)
+    → Above t.course.ascent r (those_drawn gs) → IsOpened (those_drawn gs) → NoneNamed (those_drawn gs)
+    → AreTabled (unseen start.gear) t.kept.enrolled (those_drawn gs)
+    → 106 * count_by is_wanted (those_drawn gs) + 32 + called_after (count_by is_lost gs) ≤ left → GoesTo start t o gs left
 hunts_on start t o r gs left calm is next hunted clear settled up ready unnamed tabled frames =
     hunts_by start t o served_above (106 * count_by is_wanted (those_drawn gs) + 32) gs left calm is
     (next ∙ ap (λ b. going_on t.kept b t.course) hunted.opened_is ∙ ap (λ y. searching_on y t.course) calm.smooth.way
     ∙ ap (λ x. hunting (record t.course { tally = served t.course.tally; ascent = gone_on_from x t.course.ascent })) up.reached)
     (record { way = calm.smooth.way; passed = refl; unmissed = calm.smooth.unmissed })
-    hunted
-    (λ none. absurd (let some : 0 < (above t.course.ascent r).found = found in omega (arith, some, none))) clear settled
-    (rises_above t.course.ascent r (those_drawn gs) (106 * count_by is_wanted (those_drawn gs) + 32) up.is up.drawn up.past ready unnamed (omega arith)) tabled
-    (subst (λ n. 106 * count_by is_wanted (those_drawn gs) + 32 + n ≤ left)
+    hunted (λ none. absurd (let some : 0 < (above t.course.ascent r).found = found in omega (arith, some, none))) clear settled
+    (rises_above t.course.ascent r (those_drawn gs) (106 * count_by is_wanted (those_drawn gs) + 32) up.is up.drawn up.past ready unnamed (omega arith))
+    tabled (subst (λ n. 106 * count_by is_wanted (those_drawn gs) + 32 + n ≤ left)
     (sym (hunted_some ((above t.course.ascent r).found + count_by is_wanted (those_drawn gs)) (count_by is_lost gs)
     (more (above t.course.ascent r).found (count_by is_wanted (those_drawn gs)) found))) frames)
   where

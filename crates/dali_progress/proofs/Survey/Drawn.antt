@@ -102,8 +102,7 @@ stored g a false is mask = go (is_some g.short) refl is where
 
 undrawn_taken : (c : Command) (g : Gear) (x : ℕ) → IsSearching c → Still c g → g.powered ≡ true → is_undrawn (gear_taken c x g) ≡ is_undrawn g
 undrawn_taken (Program (Some a)) g x is still on =
-    given_undrawn g (short_after (Program (Some a)) g) (is_undrawn g) refl (λ e. (still e on).0)
-    (λ e mask. stored g a (is_active g.state && is_found g) e mask)
+    given_undrawn g (short_after (Program (Some a)) g) (is_undrawn g) refl (λ e. (still e on).0) (λ e mask. stored g a (is_active g.state && is_found g) e mask)
 undrawn_taken (Program None) g x is still on = absurd is
 undrawn_taken (SearchHigh byte) g x is still on = refl
 undrawn_taken (SearchMiddle byte) g x is still on = refl
@@ -133,8 +132,8 @@ one_drawn : (c : Command) (k : ℕ) (g : Gear) (numbers : List ℕ) → IsSearch
     ≡ drop_one (is_undrawn (one_after (takes Everyone k g) c numbers g)) (one_after (takes Everyone k g) c numbers g)
 one_drawn c k g numbers is still = go g.powered refl (is_undrawn g) refl where
   go : (p : Bool) → g.powered ≡ p → (b : Bool) → is_undrawn g ≡ b
-      → one_after (takes Everyone k (drop_one b g)) c numbers (drop_one b g)
-      ≡ drop_one (is_undrawn (one_after (takes Everyone k g) c numbers g)) (one_after (takes Everyone k g) c numbers g)
+      → one_after (takes Everyone k (drop_one b g)) c numbers (drop_one b g) ≡ drop_one (is_undrawn (one_after (takes Everyone k g) c numbers g))
+      (one_after (takes Everyone k g) c numbers g)
   go true on true undrawn =
       subst (λ (n : Gear). dark ≡ drop_one (is_undrawn n) n) (sym (one_on c k g numbers on))
       (sym (ap (λ b. drop_one b (gear_taken c (next_draw g numbers) g)) (undrawn_taken c g (next_draw g numbers) is still on ∙ undrawn)))
@@ -162,8 +161,7 @@ row_drawn c k (g ∷ gs) numbers is still =
     (no_draw c (drop_one (is_undrawn g) g) is) in
     let rest = row_drawn c (k + 1) gs numbers is (λ i h. still (suc i) (omega arith)) in
     ap (λ ns. one_after (takes Everyone k (drop_one (is_undrawn g) g)) c numbers (drop_one (is_undrawn g) g) ∷ row_after Everyone c (k + 1) (those_drawn gs) ns)
-    other
-    ∙ ap (λ hs. one_after (takes Everyone k (drop_one (is_undrawn g) g)) c numbers (drop_one (is_undrawn g) g) ∷ hs) rest
+    other ∙ ap (λ hs. one_after (takes Everyone k (drop_one (is_undrawn g) g)) c numbers (drop_one (is_undrawn g) g) ∷ hs) rest
     ∙ ap (λ h. h ∷ those_drawn (row_after Everyone c (k + 1) gs numbers)) first
     ∙ sym (ap (λ ns. those_drawn (one_after (takes Everyone k g) c numbers g ∷ row_after Everyone c (k + 1) gs ns)) one)
 
@@ -172,8 +170,8 @@ pub answers_drawn : (c : Command) (k : ℕ) (gs : List Gear) → ((i : ℕ) → 
 answers_drawn c k [] still = refl
 answers_drawn c k (g ∷ gs) still =
     ap (λ bytes. option_cons (if takes Everyone k (drop_one (is_undrawn g) g) then answer c (drop_one (is_undrawn g) g) else None) bytes)
-    (answers_drawn c (k + 1) gs (λ i h. still (suc i) (omega arith)))
-    ∙ ap (λ o. option_cons o (answers_of Everyone c (k + 1) gs)) (go (is_undrawn g) refl) where
+    (answers_drawn c (k + 1) gs (λ i h. still (suc i) (omega arith))) ∙ ap (λ o. option_cons o (answers_of Everyone c (k + 1) gs))
+    (go (is_undrawn g) refl) where
       go : (b : Bool) → is_undrawn g ≡ b
           → (if takes Everyone k (drop_one b g) then answer c (drop_one b g) else None) ≡ (if takes Everyone k g then answer c g else None)
       go false drew = refl
@@ -295,8 +293,7 @@ three false false false = omega arith
 
 one_bare : (g : Gear) → (if is_bare g then 1 else 0) ≡ (if is_bare (drop_one (is_undrawn g) g) then 1 else 0) + (if is_lost g then 1 else 0)
 one_bare g =
-    three g.powered (g.random == MASK24) (is_some g.short)
-    ∙ sym (ap (λ b. (if b then 1 else 0) + (if is_lost g then 1 else 0)) (bare_left (is_undrawn g) g))
+    three g.powered (g.random == MASK24) (is_some g.short) ∙ sym (ap (λ b. (if b then 1 else 0) + (if is_lost g then 1 else 0)) (bare_left (is_undrawn g) g))
 
 pub bare_split : (gs : List Gear) → count_by is_bare gs ≡ count_by is_bare (those_drawn gs) + count_by is_lost gs
 bare_split [] = refl
@@ -344,8 +341,8 @@ DrewApart gs =
 
 pub drew_apart : (w : World) → AreDrawn w → DrewApart w.gear
 drew_apart w drawn j k h i small same =
-    ap (λ draw. draw.0) (same_member (λ draw. draw.1) w.drawn (j, (gear_of w.gear j).random) (k, (gear_of w.gear k).random) drawn.once
-    (drew j h small) (drew k i (subst (λ n. n < MASK24) same small)) same) where
+    ap (λ draw. draw.0) (same_member (λ draw. draw.1) w.drawn (j, (gear_of w.gear j).random) (k, (gear_of w.gear k).random) drawn.once (drew j h small)
+    (drew k i (subst (λ n. n < MASK24) same small)) same) where
       drew : (g : ℕ) → g < length w.gear → (gear_of w.gear g).random < MASK24 → Has w.drawn (g, (gear_of w.gear g).random)
       drew g there below = go (drawn.random g there) where
         go : ((gear_of w.gear g).random ≡ MASK24) ⊎ Has w.drawn (g, (gear_of w.gear g).random) → Has w.drawn (g, (gear_of w.gear g).random)
@@ -385,8 +382,7 @@ woken_opened gs numbered all = record {
 
 pub woken_none_named : (gs : List Gear) → AreOpening stage.Initialised gs → NoneNamed (those_drawn gs)
 woken_none_named gs all =
-    of_drawn (λ g. g.state ≡ Enabled → g.short ≡ None) gs
-    (λ k h on drew enabled. woken_short (gear_of gs k) (all k h on).1 (rw enabled refl))
+    of_drawn (λ g. g.state ≡ Enabled → g.short ≡ None) gs (λ k h on drew enabled. woken_short (gear_of gs k) (all k h on).1 (rw enabled refl))
 
 -- the table, with all gear and with those that drew
 pub tabled_drawn : (before : List Gear) (xs : List Assignment) (gs : List Gear) → AreTabled before xs gs → AreTabled before xs (those_drawn gs)

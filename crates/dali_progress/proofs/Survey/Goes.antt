@@ -103,8 +103,7 @@ not_contradicted w c b r agree found (inr other) =
 pub uncontradicted : (w : World) (c : ℕ) (t : Machine) → FindingsAgree w → c < length w.controllers → t.kept ≡ (controller_at w c).records
     → later (controller_at w c).finding (finding_of t.trace) ≡ (controller_at w c).finding → IsUncontradicted t
 uncontradicted w c t agree there kept found x is contradicts =
-    not_contradicted w c (assigned x).0 (assigned x).1 agree
-    (there, (x, later_some (controller_at w c).finding x (finding_of t.trace) is found, refl))
+    not_contradicted w c (assigned x).0 (assigned x).1 agree (there, (x, later_some (controller_at w c).finding x (finding_of t.trace) is found, refl))
     (subst (λ k. Contradicts k.enrolled (assigned x).0 (assigned x).1) kept contradicts)
 
 -- ---------------------------------------------------------------- the controller acts
@@ -143,9 +142,8 @@ order_slack start m p f h (Commit x) gs left hears g = omega arith
 order_slack start m p f h (Done e) gs left hears g = omega arith
 order_slack start m p f h (Halt why) gs left hears g = omega arith
 
-first_acts : (start : Begun) (m : Machine) (o : Order) (gs : List Gear) (left : ℕ) (told : Option Input) → m.last ≡ None
-    → IsGivenBy (machine_surveying m) o → OneShort gs → IsTrue m.kept.enrolled gs → IsUnsurveyed start m gs left
-    → ActsTo start (machine_ordered (machine_surveying m) o) o gs left None told
+first_acts : (start : Begun) (m : Machine) (o : Order) (gs : List Gear) (left : ℕ) (told : Option Input) → m.last ≡ None → IsGivenBy (machine_surveying m) o
+    → OneShort gs → IsTrue m.kept.enrolled gs → IsUnsurveyed start m gs left → ActsTo start (machine_ordered (machine_surveying m) o) o gs left None told
 first_acts start m o gs left told last g one holds v =
     let at : stage_of m.trace ≡ stage.Free = ap stage_of v.free ∙ stage_none in
     let begins : o ≡ beginning (next_course (machine_surveying m)) =
@@ -156,9 +154,8 @@ first_acts start m o gs left told last g one holds v =
         smooth = record { way = refl; passed = refl; unmissed = refl };
       }) begins
           (ap (begins_at (machine_surveying m)) at ∙ ap (at_rest (machine_surveying m)) last)
-          (record { unopened = v.unopened; undrawn = refl; loud = refl }) v.unasked v.first (omega arith)
-          (λ e. subst IsSettled (sym v.kept) e) (λ c q has. v.unmarked c) one holds v.same (below_none start.gear m.kept.enrolled gs)
-          (count (survey_frames gs) v.frames),
+          (record { unopened = v.unopened; undrawn = refl; loud = refl }) v.unasked v.first (omega arith) (λ e. subst IsSettled (sym v.kept) e)
+          (λ c q has. v.unmarked c) one holds v.same (below_none start.gear m.kept.enrolled gs) (count (survey_frames gs) v.frames),
       begins_less o (machine_surveying m) 1 begins (omega arith),
     )
   where
@@ -183,8 +180,7 @@ pub record IsActedSo (w : World) (c : ℕ) (m : Machine) (i : Input) (o : Order)
   pub agreed : (b : Answer) → i ≡ input.Heard b → IsUncontradicted (machine_told m i)
 
 pub acted_so : (w : World) (q c : ℕ) (m : Machine) (i : Input) (o : Order) → IsLone w q c m → IsFound (controller_at w c) m → Succeeds true i
-    → Allowed w (event.Acted c i o) → IsGivenBy (machine_told m i) o → IsSurveyed w c → KeepsPromiseNow (happens w (event.Acted c i o))
-    → IsActedSo w c m i o
+    → Allowed w (event.Acted c i o) → IsGivenBy (machine_told m i) o → IsSurveyed w c → KeepsPromiseNow (happens w (event.Acted c i o)) → IsActedSo w c m i o
 acted_so w q c m i o l was surveys here by known promise = record {
   hand = subst (λ k. IsAtHand k w.gear) (sym l.kept) known.hand;
   found = subst (λ k. IsFound k (machine_after m i o)) (sym (acted_there w c i o l.up)) (ordered_found (controller_at w c).finding (machine_told m i) o found);
@@ -202,8 +198,8 @@ acted_so w q c m i o l was surveys here by known promise = record {
       found_told w q c m (controller_at w c).outstanding (controller_at w c) (controller_at w c).last (controller_at w c).told i l.moment
       (due_of (controller_at w c) i here.due) surveys refl was
 
-pub survey_acts : (start : Begun) (w : World) (q c : ℕ) (m : Machine) (i : Input) (o : Order) (left : ℕ) → Goes (of_survey start) w q c m left
-    → Succeeds true i → Allowed w (event.Acted c i o) → IsGivenBy (machine_told m i) o → IsWhole (machine_after m i o) → IsSurveyed w c
+pub survey_acts : (start : Begun) (w : World) (q c : ℕ) (m : Machine) (i : Input) (o : Order) (left : ℕ) → Goes (of_survey start) w q c m left → Succeeds true i
+    → Allowed w (event.Acted c i o) → IsGivenBy (machine_told m i) o → IsWhole (machine_after m i o) → IsSurveyed w c
     → KeepsPromiseNow (happens w (event.Acted c i o))
     → IsFound (controller_at (happens w (event.Acted c i o)) c) (machine_after m i o) × Holds start (machine_after m i o) (Some o) None w.gear left
     × (survey_slack (Some o) None + 1 ≤ slack_at (of_survey start) w c)
@@ -225,15 +221,14 @@ survey_acts start w q c m i o left goes surveys here by whole known promise = (
         turned start (machine_heard m (Some f) h) o w.gear left given hears.stands so.hand (known.1 h refl) known.2 (put_no_enrolment p f m.last is)
             hears.running,
         order_slack start m p f h o w.gear left hears given,
-      ))
-      (λ x is free given known next. committed start m x o w.gear left next.0.0 next.0.1 free is so.hand.kept.reserved given so.hand.one known.0)
+      )) (λ x is free given known next. committed start m x o w.gear left next.0.0 next.0.1 free is so.hand.kept.reserved given so.hand.one known.0)
       goes.lone surveys here.due by (so.holds, so.agreed, whole) goes.holds
 
 -- ---------------------------------------------------------------- its frame is sent
 
 -- no stage on the way is one of a search that led to no gear
-never_silent : (told : Bool) (p : Purpose) (s : Stage) (k : Kept) (heard : Shorts) (asked : ℕ) (c : Course) (opened : Bool) (start : Begun)
-    (gs : List Gear) (left : ℕ) → SurveyAt told p s k heard asked c start gs left → silent_after s opened 0 ≡ 0
+never_silent : (told : Bool) (p : Purpose) (s : Stage) (k : Kept) (heard : Shorts) (asked : ℕ) (c : Course) (opened : Bool) (start : Begun) (gs : List Gear)
+    (left : ℕ) → SurveyAt told p s k heard asked c start gs left → silent_after s opened 0 ≡ 0
 never_silent told (Asking a) s k heard asked c opened start gs left at = quiet_asked a s gs opened 0 at.1.ask.asked
 never_silent told Calling s k heard asked c opened start gs left at = quiet_roll s c.number gs opened 0 at.roll
 never_silent told Drawing s k heard asked c opened start gs left at = quiet_draw Drawing s c.number gs opened 0 tt at.draw
@@ -250,8 +245,7 @@ never_silent told (Resolving a) s k heard asked c opened start gs left at = absu
 never_silent told p _ k heard asked c opened start gs left at = refl
 
 stands_heard : (start : Begun) (m : Machine) (f : Forward) (h : Answer) (gs : List Gear) (numbers : List ℕ) (left : ℕ) → SurveyStands false start m gs left
-    → IsLawful m.trace f
-    → (sent : SurveySent m.course.purpose (stage_of m.trace) m.kept m.heard m.asked m.course start gs numbers left (command_of f) h)
+    → IsLawful m.trace f → (sent : SurveySent m.course.purpose (stage_of m.trace) m.kept m.heard m.asked m.course start gs numbers left (command_of f) h)
     → SurveyStands true start (machine_heard m (Some f) h) (row_after Everyone (command_of f) 0 gs numbers) sent.0
 stands_heard start m f h gs numbers left st lawful sent = record {
   calm = record {
@@ -315,8 +309,7 @@ survey_sends start w q c m p f h left goes last told here known surveyed heard =
     let told_so : IsAtHand m.kept w.gear = subst (λ k. IsAtHand k w.gear) (sym goes.lone.kept) surveyed.hand in
     let sent : SurveySent m.course.purpose (stage_of m.trace) m.kept m.heard m.asked m.course start w.gear w.left left (command_of f) h =
     survey_sent m.course.purpose (stage_of m.trace) m.kept m.heard m.asked m.course start w.gear w.left left (command_of f) h holds.0.0.at
-    (sends_now m p f last holds.1) (taken_of w c f h here known heard) told_so
-    (subst (λ t. Seeks (stage_of t) w.gear) same known.seeks) in
+    (sends_now m p f last holds.1) (taken_of w c f h here known heard) told_so (subst (λ t. Seeks (stage_of t) w.gear) same known.seeks) in
     let lawful : IsLawful m.trace f = lawful_now w c m.trace f h lone.2 here in (
       sent.0,
       sent.1,
@@ -377,8 +370,7 @@ argument start = record {
 -- THE START
 pub starts : (s : SiteState) (c : ℕ) → IsAlone s c → Runs (of_survey (began_at s c)) s c (most_frames BySurvey (bare s))
 starts s c a =
-    runs_first IsFound (with_left (of_survey (began_at s c)) (most_frames BySurvey (bare s))) s c a (rw a.told refl)
-    (record {
+    runs_first IsFound (with_left (of_survey (began_at s c)) (most_frames BySurvey (bare s))) s c a (rw a.told refl) (record {
       tries = refl;
       silent = refl;
       free = refl;
@@ -429,8 +421,8 @@ one_machine : (x y : Machine) → Some x ≡ Some y → x ≡ y
 one_machine x y e = cc
 
 pub ends : (s after : SiteState) (c : ℕ) (e : End) → EndsBy s after c e → IsSurveyDone after c e
-ends s after c e by m there = subst (λ n. SurveyEndsWell e n (world after).gear) (one_machine by.machine m (sym by.there ∙ there))
-    (ends_so e by.machine (world after).gear by.well)
+ends s after c e by m there =
+    subst (λ n. SurveyEndsWell e n (world after).gear) (one_machine by.machine m (sym by.there ∙ there)) (ends_so e by.machine (world after).gear by.well)
 
 -- settled records stay so
 pub ends_settled : (s after : SiteState) (c : ℕ) (e : End) → EndsBy s after c e → IsSettledAt s c → IsSettledAt after c

@@ -25,22 +25,18 @@ use Rattle.dali_progress.proofs.Surveying.{NoneDrawn, draw_left, roll_first, IsC
 
 -- ---------------------------------------------------------------- gear have drawn
 
-drawn_frames : (wanted lost bare left : ℕ) → wanted ≡ bare → lost ≡ 0 → 0 < bare → 106 * bare + 26 ≤ left
-    → 106 * wanted + 10 + hunted_after wanted lost ≤ left
+drawn_frames : (wanted lost bare left : ℕ) → wanted ≡ bare → lost ≡ 0 → 0 < bare → 106 * bare + 26 ≤ left → 106 * wanted + 10 + hunted_after wanted lost ≤ left
 drawn_frames zero lost bare left same none there enough = absurd (omega (arith, same, there))
 drawn_frames (suc n) (suc lost) bare left same none there enough = absurd (omega (arith, none))
 drawn_frames (suc n) zero bare left same none there enough = omega (arith, same, enough)
 
 pub drawn_turns : (start : Begun) (t : Machine) (o : Order) (gs : List Gear) (left : ℕ) → IsGivenBy t o → SurveyStands true start t gs left
-    → IsNoEnrolment t.last → stage_of t.trace ≡ stage.Opened → Draws stage.Opened t.kept t.heard t.course start gs left
-    → GoesTo start t o gs left
+    → IsNoEnrolment t.last → stage_of t.trace ≡ stage.Opened → Draws stage.Opened t.kept t.heard t.course start gs left → GoesTo start t o gs left
 drawn_turns start t o gs left g st last is v =
-    hunts_first start t o t.course gs left st.calm
-    (given.begins_after t o stage.Opened g is tt (found_at start t gs left stage.Opened st is) last (never_eight t.tries st.calm.untried))
-    (ap (begins_at t) is ∙ ap (λ y. searching_first y t.course) st.calm.smooth.way) st.calm.smooth
+    hunts_first start t o t.course gs left st.calm (given.begins_after t o stage.Opened g is tt (found_at start t gs left stage.Opened st is) last
+    (never_eight t.tries st.calm.untried)) (ap (begins_at t) is ∙ ap (λ y. searching_first y t.course) st.calm.smooth.way) st.calm.smooth
     (record { opened_is = v.opened_is; loud = v.loud; first = λ some. absurd (omega (arith, some, none)); low = v.draw.low })
-    v.somebody v.clear v.settled ready unnamed
-    (tabled_drawn (unseen start.gear) t.kept.enrolled gs v.tabled)
+    v.somebody v.clear v.settled ready unnamed (tabled_drawn (unseen start.gear) t.kept.enrolled gs v.tabled)
     (drawn_frames (count_by is_wanted (those_drawn gs)) (count_by is_lost gs) (count_by is_bare gs) left
     (count (count_by is_wanted (those_drawn gs)) (count_by is_bare (those_drawn gs)) (count_by is_lost gs) (count_by is_bare gs)
     (wanted.wanted_count (those_drawn gs) ready unnamed) (bare_split gs) none) none v.somebody (frames v.frames))
@@ -57,8 +53,7 @@ drawn_turns start t o gs left g st last is v =
     count : (wanted drew lost bare : ℕ) → wanted ≡ drew → bare ≡ drew + lost → lost ≡ 0 → wanted ≡ bare
     count wanted drew lost bare same split none = omega (arith, same, split, none)
 
-    frames : draw_left stage.Opened + 106 * count_by is_bare gs + 26 ≤ left
-        → 106 * count_by is_bare gs + 26 ≤ left
+    frames : draw_left stage.Opened + 106 * count_by is_bare gs + 26 ≤ left → 106 * count_by is_bare gs + 26 ≤ left
     frames enough = omega (arith, enough)
 
 -- ---------------------------------------------------------------- no gear is left
@@ -74,8 +69,7 @@ none_but gs all k in_row on none = go (is_undrawn (gear_of gs k)) refl where
       absurd (let never : None ≡ Some short.0 = sym none ∙ (sym (ap (λ (x : Gear). x.short) same) ∙ short.1) in cc)
 
 pub hunted_next : (t : Machine) (h : Answer) (r : SearchAddress) (room : ℕ) (s : Step) → t.course.purpose ≡ Hunting
-    → stage_of t.trace ≡ stage.Hunted r (Some h) room
-    → leads_to (ascended t.course.ascent (is_yes h)) ≡ s → next_course t ≡ hunted_to t s (hunted t.course h)
+    → stage_of t.trace ≡ stage.Hunted r (Some h) room → leads_to (ascended t.course.ascent (is_yes h)) ≡ s → next_course t ≡ hunted_to t s (hunted t.course h)
 hunted_next t h r room s purpose is leads =
     ap (begins_at t) is ∙ ap (λ p. compared_in t p h) purpose ∙ ap (λ x. hunted_to t x (hunted t.course h)) leads
 
@@ -127,8 +121,8 @@ pub vain_next : (t : Machine) (h : Answer) (a b : Bool) → next_course t ≡ un
     → next_course t ≡ (if a then (if b then drawing (hunted t.course h) else closing_by (hunted t.course h) GaveUp) else full t (hunted t.course h))
 vain_next t h a b next free few =
     next ∙ ap (λ q. if q then (if nat_lt t.course.tally.draws 3 then drawing (hunted t.course h) else closing_by (hunted t.course h) GaveUp)
-    else full t (hunted t.course h)) free
-    ∙ ap (λ q. if a then (if q then drawing (hunted t.course h) else closing_by (hunted t.course h) GaveUp) else full t (hunted t.course h)) few
+    else full t (hunted t.course h)) free ∙ ap (λ q. if a then (if q then drawing (hunted t.course h) else closing_by (hunted t.course h) GaveUp) else full t
+    (hunted t.course h)) few
 
 -- no gear was found: those that never drew do, or no address is open
 vain_over : (start : Begun) (t : Machine) (o : Order) (h : Answer) (r : SearchAddress) (room : ℕ) (gs : List Gear) (left : ℕ) → Calm t
@@ -162,8 +156,7 @@ vain_over start t o h r room gs left calm asks next none v = go (has_open t) ref
   go : (b : Bool) → has_open t ≡ b → GoesTo start t o gs left
   go true is =
       first_by start t o (drawing (hunted t.course h)) gs left calm (begins_by t o (drawing (hunted t.course h)) r room asks drawn refl) drawn
-      v.smooth
-      (record {
+      v.smooth (record {
         opened_is = v.hunted.opened_is;
         draw = record { stage_is = tt; drawn = (none_but gs v.all, refl); gear = λ k in_row on. tt; low = v.hunted.low };
         loud = v.hunted.loud;
@@ -182,8 +175,7 @@ vain_over start t o h r room gs left calm asks next none v = go (has_open t) ref
   go false is =
       first_by start t o (closing_by (hunted t.course h) BlockFull) gs left calm
       (begins_by t o (closing_by (hunted t.course h) BlockFull) r room asks closes refl) closes
-      v.smooth
-      (record {
+      v.smooth (record {
         stage_is = tt;
         well = (some, all_taken t.kept t.heard (nothing_open t is));
         settled = v.settled;
@@ -203,8 +195,7 @@ found_over : (start : Begun) (t : Machine) (o : Order) (h : Answer) (r : SearchA
     → GoesTo start t o gs left
 found_over start t o h r room gs left calm asks next some v =
     first_by start t o (calling (hunted t.course h)) gs left calm (begins_by t o (calling (hunted t.course h)) r room asks next refl) next
-    v.smooth
-    (record {
+    v.smooth (record {
       opened_is = v.hunted.opened_is;
       roll = roll_first gs;
       quiet = λ silent. absurd (let both : true ≡ false = sym silent ∙ v.hunted.loud in cc);
@@ -212,13 +203,10 @@ found_over start t o h r room gs left calm asks next some v =
       clear = v.clear;
       settled = v.settled;
       tabled = drawn_tabled (unseen start.gear) t.kept.enrolled gs v.tabled;
-      frames = subst (λ b. roll_frames b (count_by is_bare (those_drawn gs)) (count_by is_lost gs) ≤ left + 0)
-          (sym v.hunted.loud)
-          (subst (λ n. n ≤ left + 0)
-          (sym (called_roll (count_by is_bare (those_drawn gs)) (count_by is_lost gs) (none_bare (those_drawn gs) v.all)))
+      frames = subst (λ b. roll_frames b (count_by is_bare (those_drawn gs)) (count_by is_lost gs) ≤ left + 0) (sym v.hunted.loud)
+          (subst (λ n. n ≤ left + 0) (sym (called_roll (count_by is_bare (those_drawn gs)) (count_by is_lost gs) (none_bare (those_drawn gs) v.all)))
           (count (called_after (count_by is_lost gs))
-          (subst (λ n. 1 + n ≤ left)
-          (hunted_some (t.course.ascent.found + count_by is_wanted (those_drawn gs)) (count_by is_lost gs)
+          (subst (λ n. 1 + n ≤ left) (hunted_some (t.course.ascent.found + count_by is_wanted (those_drawn gs)) (count_by is_lost gs)
           (more t.course.ascent.found (count_by is_wanted (those_drawn gs)) some)) v.frames)));
     })
   where
@@ -229,8 +217,7 @@ found_over start t o h r room gs left calm asks next some v =
     count after enough = omega (arith, enough)
 
 hunt_over : (start : Begun) (t : Machine) (o : Order) (h : Answer) (r : SearchAddress) (room : ℕ) (gs : List Gear) (left : ℕ) → Calm t
-    → o ≡ question (next_course t) r room → next_course t ≡ nobody_left t (hunted t.course h) → IsOver start t h gs left
-    → GoesTo start t o gs left
+    → o ≡ question (next_course t) r room → next_course t ≡ nobody_left t (hunted t.course h) → IsOver start t h gs left → GoesTo start t o gs left
 hunt_over start t o h r room gs left calm asks next v = go ((hunted t.course h).ascent.found == 0) refl where
   same : (hunted t.course h).ascent.found ≡ t.course.ascent.found
   same = found_same t.course.ascent (is_yes h)
@@ -250,8 +237,7 @@ hunt_over start t o h r room gs left calm asks next v = go ((hunted t.course h).
 -- a machine that puts the next question in the same transaction
 pub later_asked : (t : Machine) (h : Answer) (r : SearchAddress) (room : ℕ) (f : Forward) → t.course.purpose ≡ Hunting
     → stage_of t.trace ≡ stage.Hunted r (Some h) room → next_course t ≡ hunting (hunted t.course h)
-    → machine_ordered t (Put LATER f)
-    ≡ record t { last = Some (Put LATER f); course = hunting (hunted t.course h); asked = asked_by t.course.opened t.asked }
+    → machine_ordered t (Put LATER f) ≡ record t { last = Some (Put LATER f); course = hunting (hunted t.course h); asked = asked_by t.course.opened t.asked }
 later_asked t h r room f purpose is next =
     ap (λ (d : Course). record t { last = Some (Put LATER f); course = d; asked = asked_by d.opened t.asked })
     (ap (course_on t) is ∙ ap (λ p. asked_on t p h) purpose ∙ sym (ap (begins_at t) is ∙ ap (λ p. compared_in t p h) purpose) ∙ next)
@@ -260,10 +246,10 @@ later_asked t h r room f purpose is next =
 goes_on : (start : Begun) (t : Machine) (o : Order) (h : Answer) (r : SearchAddress) (room : ℕ) (gs : List Gear) (left : ℕ) → SurveyStands true start t gs left
     → t.course.purpose ≡ Hunting → stage_of t.trace ≡ stage.Hunted r (Some h) room → next_course t ≡ hunting (hunted t.course h)
     → o ≡ Put LATER (frame_of (byte_to_send (hunting (hunted t.course h)).number r))
-    → Hunts false Hunting (stage.Hunted r (Some h) room) t.kept t.heard (hunting (hunted t.course h)) start gs left
-    → GoesTo start t o gs left
-goes_on start t o h r room gs left st purpose is next sends v = subst (λ q. GoesTo start t q gs left) (sym sends)
-    (subst (λ m. IsNext start m (Put LATER (frame_of c)) gs left) (sym (later_asked t h r room (frame_of c) purpose is next)) (
+    → Hunts false Hunting (stage.Hunted r (Some h) room) t.kept t.heard (hunting (hunted t.course h)) start gs left → GoesTo start t o gs left
+goes_on start t o h r room gs left st purpose is next sends v =
+    subst (λ q. GoesTo start t q gs left) (sym sends) (subst (λ m. IsNext start m (Put LATER (frame_of c)) gs left)
+    (sym (later_asked t h r room (frame_of c) purpose is next)) (
       record {
         calm = st.calm;
         trace = st.trace;
@@ -279,13 +265,12 @@ pub asked_where : (t : Machine) (o : Order) (h : Answer) (r : SearchAddress) (ro
     → next_course t ≡ hunting (hunted t.course h) → nat_lt (bytes_to_send (hunting (hunted t.course h)).number r) room ≡ b
     → o ≡ (if b then Put LATER (frame_of (byte_to_send (hunting (hunted t.course h)).number r)) else beginning (next_course t))
 asked_where t o h r room b asks next fits =
-    asks ∙ ap (λ c. question c r room) next
-    ∙ rw fits (ap (λ c. if b then Put LATER (frame_of (byte_to_send (hunting (hunted t.course h)).number r)) else beginning c) (sym next))
+    asks ∙ ap (λ c. question c r room) next ∙ rw fits (ap
+    (λ c. if b then Put LATER (frame_of (byte_to_send (hunting (hunted t.course h)).number r)) else beginning c) (sym next))
 
 pub hunting_turns : (start : Begun) (t : Machine) (o : Order) (s : Stage) (gs : List Gear) (left : ℕ) → IsGivenBy t o → SurveyStands true start t gs left
-    → t.course.purpose ≡ Hunting → stage_of t.trace ≡ s → (s ≡ stage.Free → ⊥)
-    → Hunts true Hunting s t.kept t.heard t.course start gs left → turn_of Hunting t.course.number s ≡ None
-    → GoesTo start t o gs left
+    → t.course.purpose ≡ Hunting → stage_of t.trace ≡ s → (s ≡ stage.Free → ⊥) → Hunts true Hunting s t.kept t.heard t.course start gs left
+    → turn_of Hunting t.course.number s ≡ None → GoesTo start t o gs left
 hunting_turns start t o stage.Free gs left g st purpose is running v over = absurd (running refl)
 hunting_turns start t o (stage.HighSent high) gs left g st purpose is running v over = absurd (cc)
 hunting_turns start t o (stage.LowSent high low) gs left g st purpose is running v over = absurd (cc)
@@ -339,9 +324,7 @@ hunting_turns start t o (stage.Hunted r (Some h) room) gs left g st purpose is r
   again : (b : Bool) → questions.has_room (asking_next p.before (asked_next t.course.ascent)) (asked_next (ascended t.course.ascent (is_yes h))) ≡ b
       → leads_to (ascended t.course.ascent (is_yes h)) ≡ Again → GoesTo start t o gs left
   again true some e =
-      goes_on start t o h r room gs left st purpose is (next Again e)
-      (asked_where t o h r room true asks (next Again e) (fits ∙ some))
-      (record {
+      goes_on start t o h r room gs left st purpose is (next Again e) (asked_where t o h r room true asks (next Again e) (fits ∙ some)) (record {
         hunted = v.hunted;
         called = called;
         clear = v.clear;
@@ -354,20 +337,17 @@ hunting_turns start t o (stage.Hunted r (Some h) room) gs left g st purpose is r
         frames = subst (λ n. v.rest + 0 + n ≤ left + 5 * v.behind) after v.frames;
       })
   again false none e =
-      hunts_by start t o (hunted t.course h) v.rest gs left st.calm
-      (asked_where t o h r room false asks (next Again e) (fits ∙ none)) (next Again e)
-      st.calm.smooth v.hunted called v.clear v.settled
-      (rises_new now asking (those_drawn gs) v.rest answered e none) v.tabled
+      hunts_by start t o (hunted t.course h) v.rest gs left st.calm (asked_where t o h r room false asks (next Again e) (fits ∙ none)) (next Again e)
+      st.calm.smooth v.hunted called v.clear v.settled (rises_new now asking (those_drawn gs) v.rest answered e none) v.tabled
       (subst (λ n. v.rest + n ≤ left) after frames)
 
   go : (s : Step) → leads_to (ascended t.course.ascent (is_yes h)) ≡ s → GoesTo start t o gs left
   go Again e = again (questions.has_room asking (asked_next now)) refl e
   go (Found m) e =
       let there : IsReachedAt now m (those_drawn gs) v.rest = rise_found now asking (those_drawn gs) v.rest m answered e in
-      first_by start t o (visiting (hunted t.course h) m) gs left st.calm
-      (begins_by t o (visiting (hunted t.course h) m) r room asks (next (Found m) e) refl) (next (Found m) e)
-      st.calm.smooth
-      (record {
+      first_by start t o (visiting (hunted t.course h) m) gs left st.calm (begins_by t o (visiting (hunted t.course h) m) r room asks (next (Found m) e) refl)
+      (next (Found m) e)
+      st.calm.smooth (record {
         hunted = v.hunted;
         called = tt;
         clear = v.clear;
@@ -386,8 +366,7 @@ hunting_turns start t o (stage.Hunted r (Some h) room) gs left g st purpose is r
         behind = there.more;
         behind_is = there.count;
         frames = count v.rest there.more (called_after (count_by is_lost gs)) there.frames
-            (subst (λ n. v.rest + n ≤ left)
-            (hunted_some (t.course.ascent.found + count_by is_wanted (those_drawn gs)) (count_by is_lost gs)
+            (subst (λ n. v.rest + n ≤ left) (hunted_some (t.course.ascent.found + count_by is_wanted (those_drawn gs)) (count_by is_lost gs)
             (some_more t.course.ascent.found (count_by is_wanted (those_drawn gs)) there.more there.count)) frames);
       })
     where
@@ -398,8 +377,7 @@ hunting_turns start t o (stage.Hunted r (Some h) room) gs left g st purpose is r
       count rest more after need enough = omega (arith, need, enough)
   go Nobody e =
       let none = rise_nobody now asking (those_drawn gs) v.rest answered e in
-      hunt_over start t o h r room gs left st.calm asks (next Nobody e)
-      (record {
+      hunt_over start t o h r room gs left st.calm asks (next Nobody e) (record {
         smooth = st.calm.smooth;
         hunted = v.hunted;
         called = v.called;

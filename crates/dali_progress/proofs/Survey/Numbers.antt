@@ -59,8 +59,8 @@ IsFewer gs numbers d = count_by is_bare (row_after Everyone d 0 gs numbers) ≤ 
 -- what is said of a frame: there are numbers enough for it, and afterwards for those to come, if the survey goes on so
 abbrev IsEnough : Machine → List Gear → List ℕ → Command → Type 0 → Type 0
 IsEnough m gs numbers d After =
-    (draws_needed Everyone d 0 gs ≤ length numbers)
-    × (IsFewer gs numbers d → After → HasNumbers m (row_after Everyone d 0 gs numbers) (row_left Everyone d 0 gs numbers))
+    (draws_needed Everyone d 0 gs ≤ length numbers) × (IsFewer gs numbers d → After
+    → HasNumbers m (row_after Everyone d 0 gs numbers) (row_left Everyone d 0 gs numbers))
 
 plain_enough : (m : Machine) (gs : List Gear) (numbers : List ℕ) (d : Command) (After : Type 0) → IsPlain d → HasNumbers m gs numbers
     → IsEnough m gs numbers d After
@@ -81,8 +81,7 @@ plain_enough m gs numbers d After plain has = (
 -- ---------------------------------------------------------------- gear draw
 
 -- if none without short address has a number, there are numbers
-enough_bare : (m : Machine) (gs : List Gear) (numbers : List ℕ) → NoneDrawn gs → HasNumbers m gs numbers
-    → count_by is_bare gs ≤ length numbers
+enough_bare : (m : Machine) (gs : List Gear) (numbers : List ℕ) → NoneDrawn gs → HasNumbers m gs numbers → count_by is_bare gs ≤ length numbers
 enough_bare m gs numbers undrawn has = go (nat_le (count_by is_bare gs) (length numbers)) refl where
   none_of : (o : Option ℕ) → not (is_some o) ≡ true → o ≡ None
   none_of None e = refl
@@ -102,8 +101,8 @@ enough_bare m gs numbers undrawn has = go (nat_le (count_by is_bare gs) (length 
       absurd (let none : count_by is_bare gs ≡ 0 = count_nothing is_bare gs (λ k h bare. few (has k h (lost k h bare))) in few (omega (arith, none)))
 
 -- until they have drawn
-undrawn_at : (s : Stage) (k : Kept) (heard : Shorts) (c : Course) (start : Begun) (gs : List Gear) (left : ℕ) (d : Command)
-    → Draws s k heard c start gs left → Sends Drawing c.number k s d → NoneDrawn gs
+undrawn_at : (s : Stage) (k : Kept) (heard : Shorts) (c : Course) (start : Begun) (gs : List Gear) (left : ℕ) (d : Command) → Draws s k heard c start gs left
+    → Sends Drawing c.number k s d → NoneDrawn gs
 undrawn_at stage.Free k heard c start gs left d v is = v.draw.drawn.0
 undrawn_at stage.Terminated k heard c start gs left d v is = v.draw.drawn.0
 undrawn_at stage.InitialisedOnce k heard c start gs left d v is = v.draw.drawn.0
@@ -119,8 +118,8 @@ randomised_first : (gs : List Gear) (c : Command) → Some Randomise ≡ Some c 
 randomised_first gs c is gear = let same : Randomise ≡ c = cc in subst (λ d. draws_needed Everyone d 0 gs ≡ 0) same (none_first 0 gs gear)
 
 -- they draw at its last frame
-drawing_draws : (s : Stage) (k : Kept) (heard : Shorts) (c : Course) (start : Begun) (gs : List Gear) (left : ℕ) (d : Command)
-    → Draws s k heard c start gs left → Sends Drawing c.number k s d → DrawsOnce s d gs
+drawing_draws : (s : Stage) (k : Kept) (heard : Shorts) (c : Course) (start : Begun) (gs : List Gear) (left : ℕ) (d : Command) → Draws s k heard c start gs left
+    → Sends Drawing c.number k s d → DrawsOnce s d gs
 drawing_draws stage.Free k heard c start gs left d v is = inl (none_apart Drawing c.number k stage.Free gs d (λ e. cc) is)
 drawing_draws stage.Terminated k heard c start gs left d v is = inl (none_apart Drawing c.number k stage.Terminated gs d (λ e. cc) is)
 drawing_draws stage.InitialisedOnce k heard c start gs left d v is = inl (none_apart Drawing c.number k stage.InitialisedOnce gs d (λ e. cc) is)
@@ -154,8 +153,7 @@ drawing_enough m s k heard after c start gs numbers left rest d h v is has =
     few_needed = let few = draws_few s d gs once in omega (arith, few, enough)
 
     go : IsFewer gs numbers d → Draws (next_stage s d h) k after c start (row_after Everyone d 0 gs numbers) rest → (b : Bool)
-        → is_complete (next_stage s d h) ≡ b
-        → HasNumbers m (row_after Everyone d 0 gs numbers) (row_left Everyone d 0 gs numbers)
+        → is_complete (next_stage s d h) ≡ b → HasNumbers m (row_after Everyone d 0 gs numbers) (row_left Everyone d 0 gs numbers)
     go fewer now false closed = λ i there lost.
         rw (left_same Everyone d 0 gs numbers (closed_none s d h gs once closed)) (omega (arith, fewer, enough))
     go fewer now true done = λ i there lost.
@@ -168,8 +166,7 @@ drawing_enough m s k heard after c start gs numbers left rest d h v is has =
 
 sent_enough : (m : Machine) (p : Purpose) (s : Stage) (k : Kept) (heard after : Shorts) (asked later : ℕ) (c : Course) (start : Begun) (gs : List Gear)
     (numbers : List ℕ) (left rest : ℕ) (d : Command) (h : Answer) → SurveyAt false p s k heard asked c start gs left → Sends p c.number k s d
-    → HasNumbers m gs numbers
-    → IsEnough m gs numbers d (SurveyAt true p (next_stage s d h) k after later c start (row_after Everyone d 0 gs numbers) rest)
+    → HasNumbers m gs numbers → IsEnough m gs numbers d (SurveyAt true p (next_stage s d h) k after later c start (row_after Everyone d 0 gs numbers) rest)
 sent_enough m (Asking a) s k heard after asked later c start gs numbers left rest d h at is has =
     plain_enough m gs numbers d _ (dry_plain (Asking a) c.number k s d tt is) has
 sent_enough m Calling s k heard after asked later c start gs numbers left rest d h at is has =
@@ -202,18 +199,15 @@ heard_enough start m p f h gs numbers left rest next last has = (
         (asked_after m.course.purpose to h m.asked) m.course start (row_after Everyone (command_of f) 0 gs numbers) rest)
     sent =
         sent_enough m m.course.purpose (stage_of m.trace) m.kept m.heard (heard_after m.course.purpose to h m.heard) m.asked
-        (asked_after m.course.purpose to h m.asked) m.course start gs numbers left rest (command_of f) h next.0.0.at
-        (sends_now m p f last next.1) has
+        (asked_after m.course.purpose to h m.asked) m.course start gs numbers left rest (command_of f) h next.0.0.at (sends_now m p f last next.1) has
 
 pub survey_draws : (start : Begun) → drawn.Draws (of_survey start) HasNumbers
 survey_draws start = record {
   stays = record {
     acts = λ s c left l i o u here surveys given holds has. has;
-    sends = λ s c left rest p f h u here heard last holds now has.
-        (heard_enough start u.machine p f h (world s).gear (world s).left left rest holds last has).1
+    sends = λ s c left rest p f h u here heard last holds now has. (heard_enough start u.machine p f h (world s).gear (world s).left left rest holds last has).1
         (bare_fewer (block_at s.plan c) (world s).gear (row_after Everyone (command_of f) 0 (world s).gear (world s).left) (frame_gives s c f h u.run here))
         now;
   };
-  enough = λ m p f gs numbers left last holds has.
-      (heard_enough start m p f Silence gs numbers left left holds last has).0;
+  enough = λ m p f gs numbers left last holds has. (heard_enough start m p f Silence gs numbers left left holds last has).0;
 }

@@ -95,8 +95,8 @@ asked_gear gs a part one = go (list_any (λ g. is_asked_of a g) gs) refl where
       inl (
         there.0,
         holds,
-        one_answers (RandomByte a part) 0 gs there.0 (byte_at part (gear_of gs there.0).random) there.1
-            (replies a part (gear_of gs there.0) there.2) (λ j h other. is_silent a part (gear_of gs j) (alone there.0 holds j h other)),
+        one_answers (RandomByte a part) 0 gs there.0 (byte_at part (gear_of gs there.0).random) there.1 (replies a part (gear_of gs there.0) there.2)
+            (λ j h other. is_silent a part (gear_of gs j) (alone there.0 holds j h other)),
       ) where
         alone : (g : ℕ) → Holds gs g a → (j : ℕ) → j < length gs → (j ≡ g → ⊥) → is_asked_of a (gear_of gs j) ≡ false
         alone g holds j h other = by (is_asked_of a (gear_of gs j)) refl where
@@ -211,8 +211,7 @@ unseen_was (g ∷ gs) zero a short = go (is_seen g) refl where
 -- it names each gear that has a short address below this one
 abbrev pub TabledBelow : ℕ → List Gear → List Assignment → List Gear → Type 0
 TabledBelow f start xs gs =
-    (g a : ℕ) → g < length gs → (gear_of gs g).short ≡ Some a → a < f
-    → ((gear_of (unseen start) g).short ≡ Some a) ⊎ Has xs (a, (gear_of gs g).random)
+    (g a : ℕ) → g < length gs → (gear_of gs g).short ≡ Some a → a < f → ((gear_of (unseen start) g).short ≡ Some a) ⊎ Has xs (a, (gear_of gs g).random)
 
 passed_before : (start gs : List Gear) (g a : ℕ) → SameCore start gs → g < length gs → (gear_of gs g).short ≡ Some a → IsPassed (gear_of gs g) a
     → (gear_of (unseen start) g).short ≡ Some a
@@ -228,8 +227,8 @@ passed_before start gs g a same h short passed =
 
 -- and this one, if the gear that has it is in the table, or drew no number
 pub below_next : (b : ℕ) (start : List Gear) (xs ys : List Assignment) (gs : List Gear) → SameCore start gs → TabledBelow b start xs gs
-    → ((x : Assignment) → Has xs x → Has ys x)
-    → ((g : ℕ) → Holds gs g b → ((gear_of gs g).random ≡ MASK24) ⊎ Has ys (b, (gear_of gs g).random)) → TabledBelow (b + 1) start ys gs
+    → ((x : Assignment) → Has xs x → Has ys x) → ((g : ℕ) → Holds gs g b → ((gear_of gs g).random ≡ MASK24) ⊎ Has ys (b, (gear_of gs g).random))
+    → TabledBelow (b + 1) start ys gs
 below_next b start xs ys gs same tabled more here g a h short less = go (nat_lt a b) refl where
   go : (t : Bool) → nat_lt a b ≡ t → ((gear_of (unseen start) g).short ≡ Some a) ⊎ Has ys (a, (gear_of gs g).random)
   go true under = by (tabled g a h short (let low : a < b = grind (arith, nat_tests, under) in low)) where

@@ -90,8 +90,8 @@ knows_same gs hs x same knows = record {
 
 -- the same search, if the gear are the same but for what they seek
 rises_on : (s t : Stage) (x : Ascent) (n : SearchAddress) (gs hs : List Gear) (left l : ℕ) (v : Rises false s x n gs left) → SameCore gs hs
-    → RiseStage true t x n v.before hs
-    → v.budget + after_rise (count_by is_wanted gs) + pending true t n ≤ l + frames_to_ask v.before (asked_next x) → Rises true t x n hs l
+    → RiseStage true t x n v.before hs → v.budget + after_rise (count_by is_wanted gs) + pending true t n ≤ l + frames_to_ask v.before (asked_next x)
+    → Rises true t x n hs l
 rises_on s t x n gs hs left l v same at frames = record {
   before = v.before;
   way = v.way;
@@ -126,16 +126,13 @@ rises_so s x n gs left v at frames = record {
 }
 
 hunted_sent : (r : SearchAddress) (last : Option Answer) (room : ℕ) (x : Ascent) (n : SearchAddress) (gs : List Gear) (numbers : List ℕ) (left : ℕ) (h : Answer)
-    (v : Rises false (stage.Hunted r last room) x n gs left)
-    → room ≡ bytes_to_send n r + 1 + room_left v.before (asked_next x)
-    → v.budget + after_rise (count_by is_wanted gs) + (bytes_to_send n r + 1) ≤ left + frames_to_ask v.before (asked_next x)
-    → (c : Command) → c ≡ byte_to_send n r → IsTaken c gs numbers h → Seeks (stage.Hunted r last room) gs
-    → RisenTo (stage.Hunted r last room) x n gs numbers left c h
+    (v : Rises false (stage.Hunted r last room) x n gs left) → room ≡ bytes_to_send n r + 1 + room_left v.before (asked_next x)
+    → v.budget + after_rise (count_by is_wanted gs) + (bytes_to_send n r + 1) ≤ left + frames_to_ask v.before (asked_next x) → (c : Command)
+    → c ≡ byte_to_send n r → IsTaken c gs numbers h → Seeks (stage.Hunted r last room) gs → RisenTo (stage.Hunted r last room) x n gs numbers left c h
 hunted_sent r last room x n gs numbers left h v is enough c sends taken seek =
     go (subst (λ d. IsByteSent n r last room d h) (sym sends) (byte_sent n r last room h (omega (arith, is)))) where
       less : (sent : ℕ) → bytes_to_send n r + 1 ≡ suc sent
-          → (l : ℕ) × (left ≡ suc l)
-          × (v.budget + after_rise (count_by is_wanted gs) + sent ≤ l + frames_to_ask v.before (asked_next x))
+          → (l : ℕ) × (left ≡ suc l) × (v.budget + after_rise (count_by is_wanted gs) + sent ≤ l + frames_to_ask v.before (asked_next x))
       less sent same =
           rise_less v.budget (after_rise (count_by is_wanted gs)) sent left (frames_to_ask v.before (asked_next x))
           (after_some (count_by is_wanted gs)) v.afford
@@ -204,8 +201,8 @@ rises_sent (stage.LowSent high low) k x n gs numbers left c h v is taken seek =
       less.0,
       less.1,
       rises_on (stage.LowSent high low) (stage.Hunted (record { high = high; middle = n.middle; low = low }) None 5) x n gs _ left less.0 v
-          (leaving.core_after (SearchMiddle n.middle) gs numbers tt)
-          (let none = none_left n high low v.stage_is.0 v.stage_is.1 in let room = (new_room v.before (asked_next x) v.stage_is.2).0 in rw (none, room) refl)
+          (leaving.core_after (SearchMiddle n.middle) gs numbers tt) (let none = none_left n high low v.stage_is.0 v.stage_is.1 in
+          let room = (new_room v.before (asked_next x) v.stage_is.2).0 in rw (none, room) refl)
           (rw (none_left n high low v.stage_is.0 v.stage_is.1) less.2),
     )
 rises_sent (stage.Hunted r None room) k x n gs numbers left c h v is taken seek =
@@ -218,10 +215,7 @@ rises_sent _ k x n gs numbers left c h v is taken seek = absurd v.stage_is
 
 pub knows_told : (has : ℕ → Bool) (x : Ascent) (b : Bool) → Knows has x → Gives has (asked_next x) b → Knows has (ascended x b)
 knows_told has x true knows gives = record { above = knows.above; below = λ small. gives }
-knows_told has x false knows gives = record {
-  above = λ m member. above m (nat_lt (asked_next x) m) refl member;
-  below = knows.below;
-} where
+knows_told has x false knows gives = record { above = λ m member. above m (nat_lt (asked_next x) m) refl member; below = knows.below } where
   above : (m : ℕ) (b : Bool) → nat_lt (asked_next x) m ≡ b → has m ≡ true → asked_next x + 1 ≤ m
   above m true less member = grind (arith, nat_tests)
   above m false less member = absurd (gives (m, member, let most : m ≤ asked_next x = grind (arith, nat_tests) in most))
@@ -261,8 +255,7 @@ silent_some gs x more is knows ready count = go (x.silent == 0) refl where
       absurd (omega (arith, none, count))
 
 never_last : (gs : List Gear) (asked more : ℕ) (b : Bool) → IsOpened gs → count_by is_wanted gs ≡ suc more → Gives (wants gs) asked b → b ≡ false
-    → asked ≡ 0xFFFFFE
-    → ⊥
+    → asked ≡ 0xFFFFFE → ⊥
 never_last gs asked more true ready count gives said last = absurd (cc)
 never_last gs asked more false ready count gives said last =
     let none : count_by is_wanted gs ≡ 0 = wanted.count_none gs (λ m has.
@@ -275,16 +268,13 @@ spent : (costs thirds before budget after left : ℕ) → 3 * costs + thirds ≤
 spent costs thirds before budget after left one two three = (omega (arith, one, two), omega (arith, one, two, three))
 
 pub answered_rise : (r : SearchAddress) (h : Answer) (room : ℕ) (x : Ascent) (n : SearchAddress) (gs : List Gear) (left : ℕ)
-    (v : Rises true (stage.Hunted r (Some h) room) x n gs left)
-    → Answered (ascended x (is_yes h)) (asking_next v.before (asked_next x)) gs left
+    (v : Rises true (stage.Hunted r (Some h) room) x n gs left) → Answered (ascended x (is_yes h)) (asking_next v.before (asked_next x)) gs left
 answered_rise r h room x n gs left v = go (count_by is_wanted gs) refl (is_yes h) v.stage_is.2 v.enough v.frames where
   knows : (b : Bool) → Gives (wants gs) (asked_next x) b → Knows (wants gs) (ascended x b)
   knows b gives = knows_told (wants gs) x b v.knows gives
 
-  go : (count : ℕ) → count_by is_wanted gs ≡ count → (b : Bool) → Gives (wants gs) (asked_next x) b
-      → thirds_for count x v.before ≤ 3 * v.budget
-      → v.budget + after_rise count + 0 ≤ left + frames_to_ask v.before (asked_next x)
-      → Answered (ascended x b) (asking_next v.before (asked_next x)) gs left
+  go : (count : ℕ) → count_by is_wanted gs ≡ count → (b : Bool) → Gives (wants gs) (asked_next x) b → thirds_for count x v.before ≤ 3 * v.budget
+      → v.budget + after_rise count + 0 ≤ left + frames_to_ask v.before (asked_next x) → Answered (ascended x b) (asking_next v.before (asked_next x)) gs left
   go zero is true gives enough frames = absurd (nobody_where gs is gives.0 gives.1)
   go zero is false gives enough frames =
       let costs = nobody_costs x v.before v.way v.running (unbounded_where gs x v.knows (nobody_where gs is)) in
@@ -299,7 +289,8 @@ answered_rise r h room x n gs left v = go (count_by is_wanted gs) refl (is_yes h
         frames = rw is rest.1;
       }
   go (suc more) is b gives enough frames =
-      let costs = somebody_costs x v.before b v.way v.running (silent_some gs x more v.way.way.is v.knows v.ready is)
+      let costs =
+      somebody_costs x v.before b v.way v.running (silent_some gs x more v.way.way.is v.knows v.ready is)
       (never_last gs (asked_next x) more b v.ready is gives) in
       let rest = spent (frames_to_ask v.before (asked_next x)) _ _ v.budget (after_rise (suc more)) left costs.0 enough frames in
       record {
@@ -407,13 +398,12 @@ rise_nobody x q gs left v is = (
 nothing_before : (m : ℕ) → has_room no_question m ≡ false
 nothing_before m = grind (arith, nat_tests)
 
-rises_anew : (x : Ascent) (gs : List Gear) (left budget : ℕ) → IsTrueWay x no_question → leads_to x ≡ Again → Knows (wants gs) x → IsOpened gs
-    → NoneNamed gs → thirds_for (count_by is_wanted gs) x no_question ≤ 3 * budget → budget + after_rise (count_by is_wanted gs) ≤ left
+rises_anew : (x : Ascent) (gs : List Gear) (left budget : ℕ) → IsTrueWay x no_question → leads_to x ≡ Again → Knows (wants gs) x → IsOpened gs → NoneNamed gs
+    → thirds_for (count_by is_wanted gs) x no_question ≤ 3 * budget → budget + after_rise (count_by is_wanted gs) ≤ left
     → Rises false stage.Free x (sought (asked_next x)) gs left
 rises_anew x gs left budget way again knows ready unnamed enough frames =
-    rises_new x no_question gs left
-    (record { way = way; knows = knows; ready = ready; unnamed = unnamed; budget = budget; enough = enough; frames = frames }) again
-    (nothing_before (asked_next x))
+    rises_new x no_question gs left (record { way = way; knows = knows; ready = ready; unnamed = unnamed; budget = budget; enough = enough; frames = frames })
+    again (nothing_before (asked_next x))
 
 pub rises_first : (gs : List Gear) (left : ℕ) → IsOpened gs → NoneNamed gs → 106 * count_by is_wanted gs + 10 ≤ left
     → Rises false stage.Free ascent_at_first (sought (asked_next ascent_at_first)) gs left
@@ -430,8 +420,7 @@ rises_first gs left ready unnamed frames = go (count_by is_wanted gs) refl frame
   go (suc more) is frames = begins 73 (rw (is, (first_true no_question refl).1) (omega arith)) (rw is (omega (arith, frames)))
 
 pub rises_above : (x : Ascent) (r : ℕ) (gs : List Gear) (left : ℕ) → IsAscent x → r < MASK24 → ((m : ℕ) → wants gs m ≡ true → r < m) → IsOpened gs
-    → NoneNamed gs
-    → 106 * count_by is_wanted gs + 32 ≤ left → Rises false stage.Free (above x r) (sought (asked_next (above x r))) gs left
+    → NoneNamed gs → 106 * count_by is_wanted gs + 32 ≤ left → Rises false stage.Free (above x r) (sought (asked_next (above x r))) gs left
 rises_above x r gs left is small past ready unnamed frames = go (count_by is_wanted gs) refl frames where
   begins : (budget : ℕ) → thirds_for (count_by is_wanted gs) (above x r) no_question ≤ 3 * budget → budget + after_rise (count_by is_wanted gs) ≤ left
       → Rises false stage.Free (above x r) (sought (asked_next (above x r))) gs left
@@ -439,8 +428,7 @@ rises_above x r gs left is small past ready unnamed frames = go (count_by is_wan
       rises_anew (above x r) gs left budget (above_true x r no_question is small refl).0 refl
       (record { above = λ m has. let over : r < m = past m has in omega (arith, over); below = λ low. absurd (omega (arith, low)) }) ready unnamed
 
-  go : (count : ℕ) → count_by is_wanted gs ≡ count → 106 * count + 32 ≤ left
-      → Rises false stage.Free (above x r) (sought (asked_next (above x r))) gs left
+  go : (count : ℕ) → count_by is_wanted gs ≡ count → 106 * count + 32 ≤ left → Rises false stage.Free (above x r) (sought (asked_next (above x r))) gs left
   go zero counts frames = begins 31 (rw (counts, (above_true x r no_question is small refl).2) (omega arith)) (rw counts (omega (arith, frames)))
   go (suc more) counts frames =
       begins 95 (rw (counts, (above_true x r no_question is small refl).1) (omega arith)) (rw counts (omega (arith, frames)))
@@ -477,8 +465,7 @@ rising_leaves : (s : Stage) (k : Kept) (x : Ascent) (n : SearchAddress) (gs : Li
 rising_leaves s k x n gs left c v is = rising_one LeavesNames s k x n gs left c tt tt tt tt v is
 
 pub rising_tabled : (before : List Gear) (s : Stage) (k : Kept) (x : Ascent) (n : SearchAddress) (gs : List Gear) (numbers : List ℕ) (left rest : ℕ)
-    (c : Command)
-    (h : Answer) → Rises false s x n gs left → Sends Hunting n k s c → Rises true (next_stage s c h) x n (row_after Everyone c 0 gs numbers) rest
+    (c : Command) (h : Answer) → Rises false s x n gs left → Sends Hunting n k s c → Rises true (next_stage s c h) x n (row_after Everyone c 0 gs numbers) rest
     → AreTabled before (to_come s n k.enrolled) gs → AreTabled before (to_come (next_stage s c h) n k.enrolled) (row_after Everyone c 0 gs numbers)
 rising_tabled before s k x n gs numbers left rest c h v is next tabled =
     subst (λ xs. AreTabled before xs (row_after Everyone c 0 gs numbers)) (sym (rising_to_come true (next_stage s c h) x n _ rest k.enrolled next))
@@ -495,8 +482,7 @@ byte_sought n r gs compare = go (r.high == n.high) refl (r.low == n.low) refl (r
   go false one d two e three = tt
   go true one false two e three = tt
   go true one true two false three = tt
-  go true one true two true three = compare
-      (let high : r.high ≡ n.high = equal r.high n.high one in
+  go true one true two true three = compare (let high : r.high ≡ n.high = equal r.high n.high one in
       let low : r.low ≡ n.low = equal r.low n.low two in
       let middle : r.middle ≡ n.middle = equal r.middle n.middle three in
       ap (λ x. record { high = x; middle = r.middle; low = r.low }) high ∙ ap (λ x. record { high = n.high; middle = x; low = r.low }) middle

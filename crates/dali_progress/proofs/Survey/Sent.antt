@@ -42,8 +42,7 @@ first_query r h = queried_by IsNotLeft r (λ b q a is. cc) (λ q a is. cc) (λ q
 second_query : (r : SearchAddress) (b : ℕ) (h : Answer) → IsNotLeft (verified r b h)
 second_query r b h = verified_by IsNotLeft r b (λ q a is. cc) (λ o q a is. cc) h
 
-least_by : (t : Stage) (n : SearchAddress) (hs : List Gear) → ((m : ℕ) → wants hs m ≡ true → value_of n ≤ m)
-    → IsNotLeft t → IsLeastAt t n hs
+least_by : (t : Stage) (n : SearchAddress) (hs : List Gear) → ((m : ℕ) → wants hs m ≡ true → value_of n ≤ m) → IsNotLeft t → IsLeastAt t n hs
 least_by (stage.Withdrawn q a) n hs least never = absurd (never q a refl)
 least_by _ n hs least never = least
 
@@ -52,8 +51,7 @@ least_core : (gs hs : List Gear) (n : SearchAddress) → SameCore gs hs → ((m 
 least_core gs hs n same least m has = least m (sym (leaving.core_wants gs hs m same) ∙ has)
 
 pub least_sent : (s : Stage) (k : Kept) (x : Ascent) (n : SearchAddress) (gs : List Gear) (numbers : List ℕ) (left : ℕ) (c : Command) (h : Answer)
-    → VisitsAt s k n gs left → Sends Visiting n k s c → Seeks s gs → IsReached s x n gs
-    → IsLeastAt (next_stage s c h) n (row_after Everyone c 0 gs numbers)
+    → VisitsAt s k n gs left → Sends Visiting n k s c → Seeks s gs → IsReached s x n gs → IsLeastAt (next_stage s c h) n (row_after Everyone c 0 gs numbers)
 least_sent s k x n gs numbers left c h v is seek at =
     visit_by (λ t d. VisitsAt t k n gs left → Seeks t gs → IsReached t x n gs → IsLeastAt (next_stage t d h) n (row_after Everyone d 0 gs numbers)) n k gs left
     (λ w by r. least_core gs _ n (leaving.core_after (SearchHigh n.high) gs numbers tt) r.least)
@@ -61,8 +59,8 @@ least_sent s k x n gs numbers left c h v is seek at =
     (λ high middle w by r. least_core gs _ n (leaving.core_after (SearchLow n.low) gs numbers tt) r.least)
     (λ q w by r. least_by (queried q h) n _ (least_core gs _ n (leaving.core_after QueryShort gs numbers tt) r.least) (first_query q h))
     (λ q a small has w by r m is. r.least m (sym (programming.programmed_wants gs numbers q a m (by q refl)) ∙ is))
-    (λ q a w by r. least_by (verified q a h) n _ (least_core gs _ n (leaving.core_after QueryShort gs numbers tt) r.least) (second_query q a h))
-    (λ q a w by r m has.
+    (λ q a w by r. least_by (verified q a h) n _ (least_core gs _ n (leaving.core_after QueryShort gs numbers tt) r.least)
+    (second_query q a h)) (λ q a w by r m has.
     let was = withdrawing.withdrawn_wants gs numbers q m (by q refl) has in
     let from : value_of n ≤ m = r.least m was.0 in
     let other : m ≡ value_of n → ⊥ = λ e. was.1 (e ∙ ap value_of (sym w.searched)) in
@@ -70,8 +68,7 @@ least_sent s k x n gs numbers left c h v is seek at =
 
 -- ---------------------------------------------------------------- how many gear are behind
 
-behind_by : (t : Stage) (behind : ℕ) (hs : List Gear) (l : ℕ) → count_by is_wanted hs ≡ suc behind
-    → IsNotLeft t → IsBehind Visiting t behind hs l
+behind_by : (t : Stage) (behind : ℕ) (hs : List Gear) (l : ℕ) → count_by is_wanted hs ≡ suc behind → IsNotLeft t → IsBehind Visiting t behind hs l
 behind_by (stage.Withdrawn q a) behind hs l count never = absurd (never q a refl)
 behind_by _ behind hs l count never = count
 
@@ -84,14 +81,13 @@ visit_behind s k n gs numbers left l behind c h less v is seek count =
     (λ w by b. leaving.core_count_wanted gs _ (leaving.core_after (SearchHigh n.high) gs numbers tt) ∙ b)
     (λ high w by b. leaving.core_count_wanted gs _ (leaving.core_after (SearchMiddle n.middle) gs numbers tt) ∙ b)
     (λ high middle w by b. leaving.core_count_wanted gs _ (leaving.core_after (SearchLow n.low) gs numbers tt) ∙ b)
-    (λ r w by b. behind_by (queried r h) behind _ l (leaving.core_count_wanted gs _ (leaving.core_after QueryShort gs numbers tt) ∙ b) (first_query r h))
-    (λ r a small has w by b. programming.programmed_count gs numbers r a (by r refl) ∙ b)
-    (λ r a w by b. behind_by (verified r a h) behind _ l (leaving.core_count_wanted gs _ (leaving.core_after QueryShort gs numbers tt) ∙ b)
-    (second_query r a h))
-    (λ r a w by b. (
+    (λ r w by b. behind_by (queried r h) behind _ l (leaving.core_count_wanted gs _ (leaving.core_after QueryShort gs numbers tt) ∙ b)
+    (first_query r h)) (λ r a small has w by b. programming.programmed_count gs numbers r a (by r refl) ∙ b)
+    (λ r a w by b. behind_by (verified r a h) behind _ l
+    (leaving.core_count_wanted gs _ (leaving.core_after QueryShort gs numbers tt) ∙ b) (second_query r a h)) (λ r a w by b. (
       (let fewer : count_by is_wanted (row_after Everyone Withdraw 0 gs numbers) < count_by is_wanted gs =
-          withdrawing.withdrawn_count gs numbers r (by r refl)
-          (subst (λ m. wants gs m ≡ true) (ap value_of (sym w.searched)) w.visited.wanted) in omega (arith, fewer, b)),
+          withdrawing.withdrawn_count gs numbers r (by r refl) (subst (λ m. wants gs m ≡ true) (ap value_of (sym w.searched)) w.visited.wanted) in
+          omega (arith, fewer, b)),
       (let more : suc w.more ≡ suc behind = sym w.visited.count ∙ b in
           let enough : 7 + search_frames w.more ≤ left + 6 = w.frames in omega (arith, less, more, enough)),
     )) s c v is v seek count
@@ -169,8 +165,8 @@ calls_sent s k heard c start gs numbers left d h v is t told seek = (
     settled = v.settled;
     tabled = tabled_left (unseen start.gear) k.enrolled gs numbers d to.leaves v.tabled;
     frames = subst (λ n. roll_frames c.tally.is_silent n (count_by is_lost (row_after Everyone d 0 gs numbers)) ≤ less.0 + call_sent (next_stage s d h))
-        (sym (drew_after d gs numbers to.leaves))
-        (subst (λ n. roll_frames c.tally.is_silent (count_by is_bare (those_drawn gs)) n ≤ less.0 + call_sent (next_stage s d h))
+        (sym (drew_after d gs numbers to.leaves)) (subst
+        (λ n. roll_frames c.tally.is_silent (count_by is_bare (those_drawn gs)) n ≤ less.0 + call_sent (next_stage s d h))
         (sym (lost_after d gs numbers to.leaves)) (subst (λ n. roll ≤ less.0 + n) (sym to.one) less.2));
   },
 ) where
@@ -197,8 +193,7 @@ draws_less rest bare zero enough = absurd (omega (arith, enough))
 draws_less rest bare (suc l) enough = (l, refl, omega (arith, enough))
 
 draws_sent : (s : Stage) (k : Kept) (heard : Shorts) (c : Course) (start : Begun) (gs : List Gear) (numbers : List ℕ) (left : ℕ) (d : Command) (h : Answer)
-    → Draws s k heard c start gs left → Sends Drawing c.number k s d → IsTaken d gs numbers h → IsAtHand k gs
-    → DrawnTo s k heard c start gs numbers left d h
+    → Draws s k heard c start gs left → Sends Drawing c.number k s d → IsTaken d gs numbers h → IsAtHand k gs → DrawnTo s k heard c start gs numbers left d h
 draws_sent s k heard c start gs numbers left d h v is t told = (
   less.0,
   less.1,
@@ -221,8 +216,7 @@ draws_sent s k heard c start gs numbers left d h v is t told = (
 
   less : (l : ℕ) × (left ≡ suc l) × (draw_left (next_stage s d h) + 106 * count_by is_bare gs + 26 ≤ l)
   less =
-      draws_less (draw_left (next_stage s d h)) (count_by is_bare gs) left
-      (subst (λ n. n + 106 * count_by is_bare gs + 26 ≤ left) (to.one refl) v.frames)
+      draws_less (draw_left (next_stage s d h)) (count_by is_bare gs) left (subst (λ n. n + 106 * count_by is_bare gs + 26 ≤ left) (to.one refl) v.frames)
 
 -- A FRAME OF A SURVEY IS SENT, and one frame less is left.
 
@@ -263,8 +257,8 @@ first_spent a asked gs hs left Damaged count same told enough =
     let few = few_asked a asked gs count in
     let less = spend (3 * (63 - a)) (3 - asked) 0 (survey_frames gs) left enough (omega (arith, few)) in (less.0, less.1, omega arith, less.2)
 
-counts_spent : (a : ℕ) (s : Stage) (k : Kept) (marks : Shorts) (asked from : ℕ) (n : SearchAddress) (start : Begun) (gs hs : List Gear) (left : ℕ)
-    (c : Command) (h : Answer) → Counts a s k marks asked from start gs left → Sends (Asking a) n k s c → SameCore gs hs → AskedAt (next_stage s c h) a hs
+counts_spent : (a : ℕ) (s : Stage) (k : Kept) (marks : Shorts) (asked from : ℕ) (n : SearchAddress) (start : Begun) (gs hs : List Gear) (left : ℕ) (c : Command)
+    (h : Answer) → Counts a s k marks asked from start gs left → Sends (Asking a) n k s c → SameCore gs hs → AskedAt (next_stage s c h) a hs
     → SpentTo a s asked gs hs left c h
 counts_spent a stage.Free k marks asked from n start gs hs left c h v is same told =
     subst (λ d. AskedAt (next_stage stage.Free d h) a hs → SpentTo a stage.Free asked gs hs left d h) (sym is)
@@ -286,8 +280,7 @@ counts_spent a _ k marks asked from n start gs hs left c h v is same told = absu
 
 abbrev CountedTo : ℕ → Stage → Kept → Shorts → ℕ → ℕ → Begun → List Gear → List ℕ → ℕ → Command → Answer → Type 0
 CountedTo a s k marks asked from start gs numbers left c h =
-    (l : ℕ) × (left ≡ suc l)
-    × Counts a (next_stage s c h) k (marked_at (next_stage s c h) h marks) (asked_at (next_stage s c h) h asked) from start
+    (l : ℕ) × (left ≡ suc l) × Counts a (next_stage s c h) k (marked_at (next_stage s c h) h marks) (asked_at (next_stage s c h) h asked) from start
     (row_after Everyone c 0 gs numbers) l
 
 counts_sent : (a : ℕ) (s : Stage) (k : Kept) (marks : Shorts) (asked from : ℕ) (n : SearchAddress) (start : Begun) (gs : List Gear) (numbers : List ℕ)
@@ -315,13 +308,14 @@ counts_sent a s k marks asked from n start gs numbers left c h v is told heard =
 visited_below : (n r : SearchAddress) (number : ℕ) → n ≡ r → n ≡ sought number → number < MASK24 → value_of r < MASK24
 visited_below n r number same is small = subst (λ m. m < MASK24) (sym (ap value_of (sym same ∙ is) ∙ value_sought number)) small
 
-visiting_sought : (s : Stage) (k : Kept) (n : SearchAddress) (gs hs : List Gear) (left : ℕ) (c : Command) → VisitsAt s k n hs left
-    → Sends Visiting n k s c → Seeks s gs → IsSoughtBy gs c
+visiting_sought : (s : Stage) (k : Kept) (n : SearchAddress) (gs hs : List Gear) (left : ℕ) (c : Command) → VisitsAt s k n hs left → Sends Visiting n k s c
+    → Seeks s gs → IsSoughtBy gs c
 visiting_sought s k n gs hs left c v is seek =
     visit_by (λ t d. VisitsAt t k n hs left → Seeks t gs → IsSoughtBy gs d) n k hs left (λ w by. tt) (λ high w by. tt) (λ high middle w by. tt)
     (λ r w by. (r, by r refl, visited_below n r w.visited.number w.searched w.visited.number_is w.visited.drawn))
     (λ r a small has w by. (r, by r refl, visited_below n r w.visited.number w.searched w.visited.number_is w.visited.drawn))
-    (λ r a w by. (r, by r refl, visited_below n r w.visited.number (sym w.searched) w.visited.number_is w.visited.drawn)) (λ r a w by. tt) s c v is v seek
+    (λ r a w by. (r, by r refl, visited_below n r w.visited.number (sym w.searched) w.visited.number_is w.visited.drawn))
+    (λ r a w by. tt) s c v is v seek
 
 seeks_drawn : (s : Stage) (gs : List Gear) → Seeks s gs → Seeks s (those_drawn gs)
 seeks_drawn s gs seek r at = seek_drawn gs r (seek r at)
@@ -378,10 +372,9 @@ hunt_sent Visiting s k x n gs numbers left c h hunt at is taken seek =
 hunt_sent _ s k x n gs numbers left c h hunt at is taken seek = absurd hunt
 
 hunt_tabled : (before : List Gear) (p : Purpose) (s : Stage) (k : Kept) (x : Ascent) (n : SearchAddress) (gs : List Gear) (numbers : List ℕ) (left rest : ℕ)
-    (c : Command) (h : Answer)
-    → IsHunt p → HuntAt false p s k x n gs left → Sends p n k s c → Seeks s gs
-    → HuntAt true p (next_stage s c h) k x n (row_after Everyone c 0 gs numbers) rest
-    → AreTabled before (to_come s n k.enrolled) gs → IsTabledTo before s n k.enrolled gs numbers c h
+    (c : Command) (h : Answer) → IsHunt p → HuntAt false p s k x n gs left → Sends p n k s c → Seeks s gs
+    → HuntAt true p (next_stage s c h) k x n (row_after Everyone c 0 gs numbers) rest → AreTabled before (to_come s n k.enrolled) gs
+    → IsTabledTo before s n k.enrolled gs numbers c h
 hunt_tabled before Hunting s k x n gs numbers left rest c h hunt at is seek next tabled =
     rising_tabled before s k x n gs numbers left rest c h at is next tabled
 hunt_tabled before Visiting s k x n gs numbers left rest c h hunt at is seek next tabled =
@@ -393,8 +386,8 @@ visiting_low : (s : Stage) (k : Kept) (n : SearchAddress) (gs : List Gear) (left
     → IsByteLow c
 visiting_low s k n gs left c v is =
     visit_by (λ t d. VisitsAt t k n gs left → IsByteLow d) n k gs left (λ w. tt) (λ high w. tt)
-    (λ high middle w. subst (λ (m : SearchAddress). m.low < 256) (sym w.visited.number_is) (low_byte w.visited.number)) (λ r w. tt)
-    (λ r a small has w. tt) (λ r a w. tt) (λ r a w. tt) s c v is v where
+    (λ high middle w. subst (λ (m : SearchAddress). m.low < 256) (sym w.visited.number_is) (low_byte w.visited.number)) (λ r w. tt) (λ r a small has w. tt)
+    (λ r a w. tt) (λ r a w. tt) s c v is v where
       low_byte : (r : ℕ) → r % 256 < 256
       low_byte r = omega arith
 
@@ -429,9 +422,9 @@ hunt_after Hunting s k x n gs numbers left c hunt at is by =
 hunt_after Visiting s k x n gs numbers left c hunt at is by = ap called_after (lost_same c gs numbers (searching_of gs c by) (still_of gs c by))
 hunt_after _ s k x n gs numbers left c hunt at is by = absurd hunt
 
-hunts_sent : (p : Purpose) (s : Stage) (k : Kept) (heard : Shorts) (c : Course) (start : Begun) (gs : List Gear)
-    (numbers : List ℕ) (left : ℕ) (d : Command) (h : Answer) → IsHunt p → Hunts false p s k heard c start gs left → Sends p c.number k s d
-    → IsTaken d gs numbers h → IsAtHand k gs → Seeks s gs → HuntedTo p s k heard c start gs numbers left d h
+hunts_sent : (p : Purpose) (s : Stage) (k : Kept) (heard : Shorts) (c : Course) (start : Begun) (gs : List Gear) (numbers : List ℕ) (left : ℕ) (d : Command)
+    (h : Answer) → IsHunt p → Hunts false p s k heard c start gs left → Sends p c.number k s d → IsTaken d gs numbers h → IsAtHand k gs → Seeks s gs
+    → HuntedTo p s k heard c start gs numbers left d h
 hunts_sent p s k heard c start gs numbers left d h hunt v is t told seek = (
   one.0,
   one.1,
@@ -451,10 +444,10 @@ hunts_sent p s k heard c start gs numbers left d h hunt v is t told seek = (
         (hunt_tabled (unseen start.gear) p s k c.ascent c.number (those_drawn gs) numbers v.rest sent.0 d h hunt v.at is
         (seeks_drawn s gs seek) sent.2 v.tabled);
     behind = v.behind;
-    behind_is = subst (λ hs. IsBehind p (next_stage s d h) v.behind hs sent.0) row
+    behind_is =
+        subst (λ hs. IsBehind p (next_stage s d h) v.behind hs sent.0) row
         (behind_sent p s k c.ascent c.number (those_drawn gs) numbers v.rest sent.0 v.behind d h hunt sent.1 v.at is (seeks_drawn s gs seek) v.behind_is);
-    frames = subst (λ m. sent.0 + surplus p + m ≤ one.0 + 5 * v.behind)
-        (sym (hunt_after p s k c.ascent c.number gs numbers v.rest d hunt v.at is by)) one.2;
+    frames = subst (λ m. sent.0 + surplus p + m ≤ one.0 + 5 * v.behind) (sym (hunt_after p s k c.ascent c.number gs numbers v.rest d hunt v.at is by)) one.2;
   },
 ) where
   by : IsSoughtBy gs d
@@ -486,8 +479,7 @@ ClosedTo e s k heard start gs numbers left c h =
     (l : ℕ) × (left ≡ suc l) × SurveyCloses e (next_stage s c h) k heard start (row_after Everyone c 0 gs numbers) l
 
 closes_sent : (e : End) (s : Stage) (k : Kept) (heard : Shorts) (n : SearchAddress) (start : Begun) (gs : List Gear) (numbers : List ℕ) (left : ℕ) (c : Command)
-    (h : Answer)
-    → SurveyCloses e s k heard start gs left → Sends (Closing e) n k s c → ClosedTo e s k heard start gs numbers left c h
+    (h : Answer) → SurveyCloses e s k heard start gs left → Sends (Closing e) n k s c → ClosedTo e s k heard start gs numbers left c h
 closes_sent e stage.Free k heard n start gs numbers left c h v is =
     subst (λ d. ClosedTo e stage.Free k heard start gs numbers left d h) (sym is) go where
       go : ClosedTo e stage.Free k heard start gs numbers left Terminate h
@@ -510,13 +502,12 @@ closes_sent e _ k heard n start gs numbers left c h v is = absurd v.stage_is
 
 abbrev pub SurveySent : Purpose → Stage → Kept → Shorts → ℕ → Course → Begun → List Gear → List ℕ → ℕ → Command → Answer → Type 0
 SurveySent p s k heard asked c start gs numbers left d h =
-    (l : ℕ) × (left ≡ suc l)
-    × SurveyAt true p (next_stage s d h) k (heard_after p (next_stage s d h) h heard) (asked_after p (next_stage s d h) h asked) c start
-    (row_after Everyone d 0 gs numbers) l
+    (l : ℕ) × (left ≡ suc l) × SurveyAt true p (next_stage s d h) k (heard_after p (next_stage s d h) h heard)
+    (asked_after p (next_stage s d h) h asked) c start (row_after Everyone d 0 gs numbers) l
 
 pub survey_sent : (p : Purpose) (s : Stage) (k : Kept) (heard : Shorts) (asked : ℕ) (c : Course) (start : Begun) (gs : List Gear) (numbers : List ℕ) (left : ℕ)
-    (d : Command) (h : Answer) → SurveyAt false p s k heard asked c start gs left
-    → Sends p c.number k s d → IsTaken d gs numbers h → IsAtHand k gs → Seeks s gs → SurveySent p s k heard asked c start gs numbers left d h
+    (d : Command) (h : Answer) → SurveyAt false p s k heard asked c start gs left → Sends p c.number k s d → IsTaken d gs numbers h → IsAtHand k gs → Seeks s gs
+    → SurveySent p s k heard asked c start gs numbers left d h
 survey_sent (Asking a) s k heard asked c start gs numbers left d h at is t told seek =
     let sent = counts_sent a s k heard asked c.from c.number start gs numbers left d h at.1 is told t.heard in (sent.0, sent.1, (at.0, sent.2))
 survey_sent Calling s k heard asked c start gs numbers left d h at is t told seek = calls_sent s k heard c start gs numbers left d h at is t told seek

@@ -91,8 +91,7 @@ pub record Calls (s : Stage) (k : Kept) (heard : Shorts) (c : Course) (start : B
   pub clear : IsClear k heard
   pub settled : IsSettled start.kept → IsSettled k
   pub tabled : AreTabled (unseen start.gear) k.enrolled gs
-  pub frames : roll_frames c.tally.is_silent (count_by is_bare (those_drawn gs)) (count_by is_lost gs)
-      ≤ left + call_sent s
+  pub frames : roll_frames c.tally.is_silent (count_by is_bare (those_drawn gs)) (count_by is_lost gs) ≤ left + call_sent s
 
 -- ---------------------------------------------------------------- gear draw
 
@@ -207,8 +206,7 @@ pub record Hunted (opened silent : Bool) (draws : ℕ) (gs : List Gear) : Type 0
 abbrev pub IsHunted : Course → List Gear → Type 0
 IsHunted c gs = Hunted c.opened c.tally.is_silent c.tally.draws gs
 
-pub record Hunts (told : Bool) (p : Purpose) (s : Stage) (k : Kept) (heard : Shorts) (c : Course) (start : Begun) (gs : List Gear)
-    (left : ℕ) : Type 0 where
+pub record Hunts (told : Bool) (p : Purpose) (s : Stage) (k : Kept) (heard : Shorts) (c : Course) (start : Begun) (gs : List Gear) (left : ℕ) : Type 0 where
   pub hunted : IsHunted c gs
   pub called : IsCalledFor p c.ascent gs
   pub clear : IsClear k heard

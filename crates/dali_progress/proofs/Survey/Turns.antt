@@ -33,8 +33,8 @@ again_left (suc k) e = omega arith
 
 silent_turns : (start : Begun) (t : Machine) (o : Order) (a b : ℕ) (gs : List Gear) (left : ℕ) → IsGivenBy t o → SurveyStands true start t gs left
     → IsNoEnrolment t.last → t.course.purpose ≡ Asking a → stage_of t.trace ≡ stage.HighAsked b None → IsUncalled t.course
-    → Counts a (stage.HighAsked b None) t.kept t.heard t.asked t.course.from start gs left → IsWhole (machine_ordered t o)
-    → OneShort gs → IsTrue t.kept.enrolled gs → GoesTo start t o gs left
+    → Counts a (stage.HighAsked b None) t.kept t.heard t.asked t.course.from start gs left → IsWhole (machine_ordered t o) → OneShort gs
+    → IsTrue t.kept.enrolled gs → GoesTo start t o gs left
 silent_turns start t o a b gs left g st last purpose is uncalled v whole one holds = go (t.asked == 0) refl where
   begins : o ≡ beginning (next_course t)
   begins =
@@ -74,8 +74,8 @@ silent_turns start t o a b gs left g st last purpose is uncalled v whole one hol
 -- three bytes told a number
 told_turns : (start : Begun) (t : Machine) (o : Order) (a b n : ℕ) (gs : List Gear) (left : ℕ) → IsGivenBy t o → SurveyStands true start t gs left
     → t.course.purpose ≡ Asking a → stage_of t.trace ≡ stage.Spelled b (Some n) → IsUncalled t.course
-    → Counts a (stage.Spelled b (Some n)) t.kept t.heard t.asked t.course.from start gs left → IsAtHand t.kept gs
-    → IsUncontradicted t → GoesTo start t o gs left
+    → Counts a (stage.Spelled b (Some n)) t.kept t.heard t.asked t.course.from start gs left → IsAtHand t.kept gs → IsUncontradicted t
+    → GoesTo start t o gs left
 told_turns start t o a b n gs left g st purpose is uncalled v hand agrees = go (nat_lt n MASK24) refl where
   count : (wake : ℕ) → a < 64 → 3 * (63 - a) + 0 + wake ≤ left → 3 * (64 - (a + 1)) + wake ≤ left
   count wake small enough = omega (arith, small, enough)
@@ -91,18 +91,15 @@ told_turns start t o a b n gs left g st purpose is uncalled v hand agrees = go (
 
   -- the next short address, if the gear that has this one is in the table, or has no number that gear draw
   goes : (q : Order) → q ≡ beginning (next_course t)
-      → ((i : ℕ) → Holds gs i a → ((gear_of gs i).random ≡ MASK24) ⊎ Has t.kept.enrolled (a, (gear_of gs i).random))
-      → GoesTo start t q gs left
+      → ((i : ℕ) → Holds gs i a → ((gear_of gs i).random ≡ MASK24) ⊎ Has t.kept.enrolled (a, (gear_of gs i).random)) → GoesTo start t q gs left
   goes q begins here =
       asks_on start t q (a + 1) gs left st.calm begins (ap (begins_at t) is) uncalled v.count v.from_is
       (let small : a < 64 = v.ask.small in omega (arith, small)) v.settled v.ask.clear hand.one hand.holds v.same
-      (below_next a start.gear t.kept.enrolled t.kept.enrolled gs v.same v.tabled (λ x h. h) here)
-      (count (survey_frames gs) v.ask.small v.frames)
+      (below_next a start.gear t.kept.enrolled t.kept.enrolled gs v.same v.tabled (λ x h. h) here) (count (survey_frames gs) v.ask.small v.frames)
 
   none_drawn : (n < MASK24 → ⊥) → (i : ℕ) → Holds gs i a → ((gear_of gs i).random ≡ MASK24) ⊎ Has t.kept.enrolled (a, (gear_of gs i).random)
   none_drawn large i has = by (hand.numbered i has.there) where
-    by : ((gear_of gs i).random ≡ MASK24) ⊎ ((gear_of gs i).random < MASK24)
-        → ((gear_of gs i).random ≡ MASK24) ⊎ Has t.kept.enrolled (a, (gear_of gs i).random)
+    by : ((gear_of gs i).random ≡ MASK24) ⊎ ((gear_of gs i).random < MASK24) → ((gear_of gs i).random ≡ MASK24) ⊎ Has t.kept.enrolled (a, (gear_of gs i).random)
     by (inl mask) = inl mask
     by (inr small) = absurd (large (subst (λ m. m < MASK24) (sym (told_by i has)) small))
 
@@ -129,8 +126,7 @@ told_turns start t o a b n gs left g st purpose is uncalled v hand agrees = go (
       (λ i told. inr (subst (λ c. Has t.kept.enrolled (c, (gear_of gs i).random)) v.ask.asked.0
       (subst (λ r. Has t.kept.enrolled (b, r)) (told_by i told) has)))
   follows (Commit x) g small same =
-      subst (λ y. GoesTo start t (Commit y) gs left) (sym same)
-      (subst (λ c. GoesTo start t (Commit (Enrol c n)) gs left) (sym v.ask.asked.0) enrols)
+      subst (λ y. GoesTo start t (Commit y) gs left) (sym same) (subst (λ c. GoesTo start t (Commit (Enrol c n)) gs left) (sym v.ask.asked.0) enrols)
   follows (Done e) g small never = absurd never
   follows (Halt why) g small contradicts = absurd (agrees (Resolved b n) (found_at start t gs left (stage.Spelled b (Some n)) st is) contradicts)
 
@@ -158,8 +154,7 @@ census_turns start t o a _ gs left g st last purpose is running uncalled v hand 
 -- ---------------------------------------------------------------- the roll call
 
 called_next : (t : Machine) (r : SearchAddress) (h : Answer) (room : ℕ) (b : Bool) → stage_of t.trace ≡ stage.Hunted r (Some h) room
-    → t.course.purpose ≡ Calling
-    → is_yes h ≡ b → next_course t ≡ called_to t b t.course
+    → t.course.purpose ≡ Calling → is_yes h ≡ b → next_course t ≡ called_to t b t.course
 called_next t r h room b is purpose said =
     ap (begins_at t) is ∙ ap (λ p. compared_in t p h) purpose ∙ ap (λ y. called_to t y t.course) said
 
@@ -167,15 +162,14 @@ pub silent_next : (t : Machine) (r : SearchAddress) (h : Answer) (room : ℕ) (b
     → t.course.purpose ≡ Calling → is_yes h ≡ false → t.course.tally.is_silent ≡ b
     → next_course t ≡ (if b then closing t.course AllFound else calling (record t.course { tally = silent_call t.course.tally }))
 silent_next t r h room b is purpose said silent =
-    called_next t r h room false is purpose said
-    ∙ ap (λ y. if y then closing t.course AllFound else calling (record t.course { tally = silent_call t.course.tally })) silent
+    called_next t r h room false is purpose said ∙ ap (λ y. if y then closing t.course AllFound else calling
+    (record t.course { tally = silent_call t.course.tally })) silent
 
 pub heard_next : (t : Machine) (r : SearchAddress) (h : Answer) (room : ℕ) (b : Bool) → stage_of t.trace ≡ stage.Hunted r (Some h) room
     → t.course.purpose ≡ Calling → is_yes h ≡ true → is_blocked t.course.tally ≡ b
     → next_course t ≡ (if b then blocked t else hunting_first (record t.course { tally = heard_call t.course.tally }))
 heard_next t r h room b is purpose said stuck =
-    called_next t r h room true is purpose said
-    ∙ ap (λ y. if y then blocked t else hunting_first (record t.course { tally = heard_call t.course.tally })) stuck
+    called_next t r h room true is purpose said ∙ ap (λ y. if y then blocked t else hunting_first (record t.course { tally = heard_call t.course.tally })) stuck
 
 -- no gear was passed over
 unblocked : (y : Tally) → y.passed ≡ none_passed → is_blocked y ≡ false
@@ -187,35 +181,27 @@ unblocked y none = ap (λ p. not (nat_lt y.calls 3) && is_some_passed p) none �
 -- no gear is without short address: the roll is called once more, or the close comes
 silent_call_turns : (start : Begun) (t : Machine) (o : Order) (r : SearchAddress) (h : Answer) (room : ℕ) (gs : List Gear) (left : ℕ)
     → SurveyStands true start t gs left → t.course.purpose ≡ Calling → stage_of t.trace ≡ stage.Hunted r (Some h) room
-    → Calls (stage.Hunted r (Some h) room) t.kept t.heard t.course start gs left → o ≡ beginning (next_course t) → is_yes h ≡ false
-    → count_by is_bare gs ≡ 0 → GoesTo start t o gs left
+    → Calls (stage.Hunted r (Some h) room) t.kept t.heard t.course start gs left → o ≡ beginning (next_course t) → is_yes h ≡ false → count_by is_bare gs ≡ 0
+    → GoesTo start t o gs left
 silent_call_turns start t o r h room gs left st purpose is v begins said nobody = go t.course.tally.is_silent refl where
   none : count_by is_bare (those_drawn gs) + count_by is_lost gs ≡ 0
   none = sym (bare_split gs) ∙ nobody
 
   frames : (b : Bool) → t.course.tally.is_silent ≡ b → (if b then 9 else 17) ≤ left + (8 - room)
   frames b e =
-      subst (λ n. n ≤ left + (8 - room))
-      (roll_none t.course.tally.is_silent (count_by is_bare (those_drawn gs)) (count_by is_lost gs) none ∙ ap (λ y. if y then 9 else 17) e) v.frames
+      subst (λ n. n ≤ left + (8 - room)) (roll_none t.course.tally.is_silent (count_by is_bare (those_drawn gs)) (count_by is_lost gs) none
+      ∙ ap (λ y. if y then 9 else 17) e) v.frames
 
   go : (b : Bool) → t.course.tally.is_silent ≡ b → GoesTo start t o gs left
   go true e =
       first_by start t o (closing t.course AllFound) gs left st.calm begins (silent_next t r h room true is purpose said e)
-      st.calm.smooth
-      (record {
-        stage_is = tt;
-        well = all_short gs nobody;
-        settled = v.settled;
-        tabled = v.tabled;
-        frames = count (frames true e);
-      }) where
+      st.calm.smooth (record { stage_is = tt; well = all_short gs nobody; settled = v.settled; tabled = v.tabled; frames = count (frames true e) }) where
         count : 9 ≤ left + (8 - room) → 1 ≤ left + 0
         count enough = omega (arith, enough)
   go false e =
       first_by start t o (calling (record t.course { tally = silent_call t.course.tally })) gs left st.calm begins
       (silent_next t r h room false is purpose said e)
-      st.calm.smooth
-      (record {
+      st.calm.smooth (record {
         opened_is = v.opened_is;
         roll = roll_first gs;
         quiet = λ silent. nobody;
@@ -223,9 +209,7 @@ silent_call_turns start t o r h room gs left st purpose is v begins said nobody 
         clear = v.clear;
         settled = v.settled;
         tabled = v.tabled;
-        frames = subst (λ n. n ≤ left + 0)
-            (sym (roll_none true (count_by is_bare (those_drawn gs)) (count_by is_lost gs) none))
-            (count (frames false e));
+        frames = subst (λ n. n ≤ left + 0) (sym (roll_none true (count_by is_bare (those_drawn gs)) (count_by is_lost gs) none)) (count (frames false e));
       }) where
         count : 17 ≤ left + (8 - room) → 9 ≤ left + 0
         count enough = omega (arith, enough)
@@ -236,15 +220,13 @@ heard_call_turns : (start : Begun) (t : Machine) (o : Order) (r : SearchAddress)
     → Calls (stage.Hunted r (Some h) room) t.kept t.heard t.course start gs left → AreNumbered gs → o ≡ beginning (next_course t) → is_yes h ≡ true
     → 0 < count_by is_bare gs → room ≡ 1 → GoesTo start t o gs left
 heard_call_turns start t o r h room gs left st purpose is v numbered begins said some one =
-    hunts_first start t o heard gs left st.calm begins
-    (heard_next t r h room false is purpose said (unblocked t.course.tally st.calm.smooth.passed))
-    st.calm.smooth
-    (record { opened_is = v.opened_is; loud = refl; first = v.first; low = v.roll.low }) some v.clear v.settled opened unnamed
+    hunts_first start t o heard gs left st.calm begins (heard_next t r h room false is purpose said (unblocked t.course.tally st.calm.smooth.passed))
+    st.calm.smooth (record { opened_is = v.opened_is; loud = refl; first = v.first; low = v.roll.low }) some v.clear v.settled opened unnamed
     (tabled_drawn (unseen start.gear) t.kept.enrolled gs v.tabled)
     (subst (λ n. 106 * n + 10 + hunted_after n (count_by is_lost gs) ≤ left) (sym count)
     (enough (count_by is_bare (those_drawn gs)) (hunted_after (count_by is_bare (those_drawn gs)) (count_by is_lost gs))
-    room one (subst (λ n. n ≤ left + (8 - room))
-    (roll_some t.course.tally.is_silent (count_by is_bare (those_drawn gs)) (count_by is_lost gs) (subst (λ n. 0 < n) (bare_split gs) some)) v.frames)))
+    room one (subst (λ n. n ≤ left + (8 - room)) (roll_some t.course.tally.is_silent (count_by is_bare (those_drawn gs)) (count_by is_lost gs)
+    (subst (λ n. 0 < n) (bare_split gs) some)) v.frames)))
   where
     heard : Course
     heard = record t.course { tally = heard_call t.course.tally }
@@ -262,15 +244,14 @@ heard_call_turns start t o r h room gs left st purpose is v numbered begins said
     enough drew after room one frames = omega (arith, one, frames)
 
 pub calling_turns : (start : Begun) (t : Machine) (o : Order) (s : Stage) (gs : List Gear) (left : ℕ) → IsGivenBy t o → SurveyStands true start t gs left
-    → t.course.purpose ≡ Calling → stage_of t.trace ≡ s → (s ≡ stage.Free → ⊥)
-    → Calls s t.kept t.heard t.course start gs left → AreNumbered gs → turn_of Calling t.course.number s ≡ None → GoesTo start t o gs left
+    → t.course.purpose ≡ Calling → stage_of t.trace ≡ s → (s ≡ stage.Free → ⊥) → Calls s t.kept t.heard t.course start gs left → AreNumbered gs
+    → turn_of Calling t.course.number s ≡ None → GoesTo start t o gs left
 calling_turns start t o s gs left g st purpose is running v numbered over =
     let at = roll_over s t.course.number gs v.roll over running in
     go at.0 at.1 at.2 (is ∙ at.3) (subst (λ q. Calls q t.kept t.heard t.course start gs left) at.3 v) at.4
   where
     go : (r : SearchAddress) (h : Answer) (room : ℕ) → stage_of t.trace ≡ stage.Hunted r (Some h) room
-        → Calls (stage.Hunted r (Some h) room) t.kept t.heard t.course start gs left → call_turn (Some h) room ≡ None
-        → GoesTo start t o gs left
+        → Calls (stage.Hunted r (Some h) room) t.kept t.heard t.course start gs left → call_turn (Some h) room ≡ None → GoesTo start t o gs left
     go r h room is v over = by v.roll.stage_is.1 where
       begins : o ≡ beginning (next_course t)
       begins = g.followed.called r h room is purpose over

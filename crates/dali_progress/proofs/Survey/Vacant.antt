@@ -34,8 +34,7 @@ all_give start s c left [] u rounds = gives_self (block_at s.plan c) (world s).g
 all_give start s c left (e ∷ es) u rounds =
     let on = runs_on (of_survey start) (argument start) s c left e u rounds.0 rounds.1 in
     gives_then (block_at s.plan c) (world s).gear (world (site_logged s e)).gear (world (site_after (site_logged s e) es)).gear
-    (subst (λ (w : World). Gives (block_at s.plan c) (world s).gear w.gear) (sym (world_logged s e))
-    (event_gives start s c left e u rounds.0 rounds.1))
+    (subst (λ (w : World). Gives (block_at s.plan c) (world s).gear w.gear) (sym (world_logged s e)) (event_gives start s c left e u rounds.0 rounds.1))
     (all_give start (site_logged s e) c on.rest es on.runs rounds.2)
 
 -- WHAT A SURVEY HAS MARKED, GEAR HAS, if nothing is disturbed.
@@ -94,8 +93,7 @@ asked_marks : (a : ℕ) (s : Stage) (k : Kept) (marks : Shorts) (asked from : �
     (h : Answer) → Counts a s k marks asked from start gs left → Sends (Asking a) n k s c → OneGear gs → h ≡ heard_of (answers_of Everyone c 0 gs)
     → Marks (next_stage s c h) h gs
 asked_marks a stage.Free k marks asked from n start gs left c h v is one heard =
-    subst (λ d. h ≡ heard_of (answers_of Everyone d 0 gs) → Marks (next_stage stage.Free d h) h gs) (sym is)
-    (λ now. go (heard_high a High gs h one now)) heard
+    subst (λ d. h ≡ heard_of (answers_of Everyone d 0 gs) → Marks (next_stage stage.Free d h) h gs) (sym is) (λ now. go (heard_high a High gs h one now)) heard
   where
     go : ((g : ℕ) × Holds gs g a × (h ≡ Byte (high_of (gear_of gs g).random))) ⊎ (Nobody gs a × (h ≡ Silence))
         → Marks (next_stage stage.Free (RandomByte a High) h) h gs
@@ -156,9 +154,8 @@ held_stays start = record {
       (one_gear (world s).gear (one_now s u.run)) heard all in
       subst (λ l. AreHeld (machine_heard m (frame_put l) h).heard (row_after Everyone (command_of f) 0 (world s).gear (world s).left)) (sym last)
       (subst (λ t. AreHeld (heard_after m.course.purpose t h m.heard) (row_after Everyone (command_of f) 0 (world s).gear (world s).left))
-      (sym (stage_more m.trace (entry f h)))
-      (λ a small has. held_on (block_at s.plan c) (world s).gear (row_after Everyone (command_of f) 0 (world s).gear (world s).left) a
-      (frame_gives s c f h u.run here) (marked a small has)));
+      (sym (stage_more m.trace (entry f h))) (λ a small has. held_on (block_at s.plan c) (world s).gear
+      (row_after Everyone (command_of f) 0 (world s).gear (world s).left) a (frame_gives s c f h u.run here) (marked a small has)));
 }
 
 -- nothing is marked at the start
@@ -197,8 +194,7 @@ two_at_most false false true m n k first second never few = omega (arith, few)
 two_at_most false false false m n k first second never few = omega (arith, few)
 
 -- if no gear passes two tests, and each that passes one of them passed a third before
-two_counts : (p q r : Gear → Bool) (gs hs : List Gear) → length hs ≡ length gs
-    → ((k : ℕ) → k < length gs → p (gear_of hs k) ≡ true → r (gear_of gs k) ≡ true)
+two_counts : (p q r : Gear → Bool) (gs hs : List Gear) → length hs ≡ length gs → ((k : ℕ) → k < length gs → p (gear_of hs k) ≡ true → r (gear_of gs k) ≡ true)
     → ((k : ℕ) → k < length gs → q (gear_of hs k) ≡ true → r (gear_of gs k) ≡ true)
     → ((k : ℕ) → k < length gs → p (gear_of hs k) ≡ true → q (gear_of hs k) ≡ true → ⊥) → count_by p hs + count_by q hs ≤ count_by r gs
 two_counts p q r [] [] e first second never = omega arith
@@ -280,8 +276,7 @@ fewer_left b gs hs xs gives once vacant held =
     given k there is = go (one_had xs (gear_of hs k) is) where
       go : (a : ℕ) × Has xs a × ((gear_of hs k).short ≡ Some a) → is_bare (gear_of gs k) ≡ true
       go (a, has, short) = by (gives.given k a there short) where
-        by : ((gear_of gs k).short ≡ Some a) ⊎ (((gear_of gs k).powered ≡ true) × ((gear_of gs k).short ≡ None) × InBlock b a)
-            → is_bare (gear_of gs k) ≡ true
+        by : ((gear_of gs k).short ≡ Some a) ⊎ (((gear_of gs k).powered ≡ true) × ((gear_of gs k).short ≡ None) × InBlock b a) → is_bare (gear_of gs k) ≡ true
         by (inl had) = absurd (vacant a has k there had)
         by (inr new) = is_bare_by (gear_of gs k) new.0 new.1
 
@@ -293,8 +288,8 @@ fewer_left b gs hs xs gives once vacant held =
 -- ---------------------------------------------------------------- the block is never full
 
 -- an address that is taken some gear has
-taken_held : (m : Machine) (gs : List Gear) (a : ℕ) → a < 64 → IsSettled m.kept → ((b r : ℕ) → Has m.kept.enrolled (b, r) → IsHeld gs b)
-    → AreHeld m.heard gs → HasAddress m.kept.reserved a ⊎ (HasAddress m.kept.enrolled a ⊎ (has_short m.heard a ≡ true)) → IsHeld gs a
+taken_held : (m : Machine) (gs : List Gear) (a : ℕ) → a < 64 → IsSettled m.kept → ((b r : ℕ) → Has m.kept.enrolled (b, r) → IsHeld gs b) → AreHeld m.heard gs
+    → HasAddress m.kept.reserved a ⊎ (HasAddress m.kept.enrolled a ⊎ (has_short m.heard a ≡ true)) → IsHeld gs a
 taken_held m gs a small settled entries marks (inl reserved) =
     let x = mapped_from (λ (p : Assignment). p.0) m.kept.reserved a reserved in
     subst (IsHeld gs) x.2 (entries x.0.0 x.0.1 (settled x.0 x.1))

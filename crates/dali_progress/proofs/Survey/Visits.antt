@@ -47,8 +47,7 @@ spared_few p = go (p == LATER) where
 counted_count : (a wake left : ℕ) → a < 64 → 3 * (63 - a) + wake ≤ left → 3 * (64 - (a + 1)) + wake ≤ left
 counted_count a wake left small enough = omega (arith, small, enough)
 
-pub rest_next : (m : Machine) (x : Record) → m.trace ≡ [] → m.last ≡ Some (Commit x)
-    → next_course (with_kept m x) ≡ at_rest (with_kept m x) (Some (Commit x))
+pub rest_next : (m : Machine) (x : Record) → m.trace ≡ [] → m.last ≡ Some (Commit x) → next_course (with_kept m x) ≡ at_rest (with_kept m x) (Some (Commit x))
 rest_next m x free last =
     let at : stage_of m.trace ≡ stage.Free = ap stage_of free ∙ stage_none in
     ap (begins_at (with_kept m x)) at ∙ ap (at_rest (with_kept m x)) last
@@ -58,21 +57,18 @@ counted_next : (start : Begun) (m : Machine) (a r : ℕ) (o : Order) (gs : List 
     → m.last ≡ Some (Commit (Enrol a r)) → IsGivenBy (with_kept m (Enrol a r)) o → OneShort gs → IsTrue (m.kept.enrolled ++ (a, r) ∷ []) gs
     → GoesTo start (with_kept m (Enrol a r)) o gs left × (survey_slack (Some o) None + 1 ≤ 2)
 counted_next start m a r o gs left calm v free last g one holds = go o g (g.followed.enrolled a r last) where
-  goes : (q : Order) → IsGivenBy (with_kept m (Enrol a r)) q → ((c : ℕ) → Has m.kept.reserved (c, r) → c ≡ a)
-      → GoesTo start (with_kept m (Enrol a r)) q gs left
+  goes : (q : Order) → IsGivenBy (with_kept m (Enrol a r)) q → ((c : ℕ) → Has m.kept.reserved (c, r) → c ≡ a) → GoesTo start (with_kept m (Enrol a r)) q gs left
   goes q g own =
-      asks_on start (with_kept m (Enrol a r)) q (a + 1) gs left calm
-      (given.enrolled (with_kept m (Enrol a r)) q a r g last free own)
-      (rest_next m (Enrol a r) free last) v.uncalled v.asked v.from_is
-      (let small : a < 64 = v.small in omega (arith, small)) (λ e x has. has_before m.kept.enrolled (a, r) x (v.settled e x has)) v.clear one holds v.same
+      asks_on start (with_kept m (Enrol a r)) q (a + 1) gs left calm (given.enrolled (with_kept m (Enrol a r)) q a r g last free own)
+      (rest_next m (Enrol a r) free last) v.uncalled v.asked v.from_is (let small : a < 64 = v.small in omega (arith, small))
+      (λ e x has. has_before m.kept.enrolled (a, r) x (v.settled e x has)) v.clear one holds v.same
       v.tabled (counted_count a (survey_frames gs) left v.small v.frames)
 
   go : (q : Order) → IsGivenBy (with_kept m (Enrol a r)) q → AfterEnrolled (with_kept m (Enrol a r)) a r q
       → GoesTo start (with_kept m (Enrol a r)) q gs left × (survey_slack (Some q) None + 1 ≤ 2)
   go (Put p f) g own = (goes (Put p f) g own, let few = spared_few p in omega (arith, few))
   go (Commit x) g (c, has, is) =
-      subst (λ y. GoesTo start (with_kept m (Enrol a r)) (Commit y) gs left
-      × (survey_slack (Some (Commit y)) None + 1 ≤ 2)) (sym is) (
+      subst (λ y. GoesTo start (with_kept m (Enrol a r)) (Commit y) gs left × (survey_slack (Some (Commit y)) None + 1 ≤ 2)) (sym is) (
         (
           calm,
           (
@@ -105,25 +101,21 @@ released_next : (start : Begun) (m : Machine) (c r a : ℕ) (o : Order) (gs : Li
     → m.last ≡ Some (Commit (Release c r)) → IsGivenBy (with_kept m (Release c r)) o → OneShort gs → IsTrue m.kept.enrolled gs
     → GoesTo start (with_kept m (Release c r)) o gs left
 released_next start m c r a o gs left calm v free last g one holds =
-    asks_on start (with_kept m (Release c r)) o (a + 1) gs left calm
-    (released_begins m c r o calm free last g)
-    (rest_next m (Release c r) free last) v.uncalled v.asked v.from_is
-    (let small : a < 64 = v.small in omega (arith, small)) (λ e x has. v.settled e x (without_has (c, r) m.kept.reserved x has))
+    asks_on start (with_kept m (Release c r)) o (a + 1) gs left calm (released_begins m c r o calm free last g)
+    (rest_next m (Release c r) free last) v.uncalled v.asked v.from_is (let small : a < 64 = v.small in omega (arith, small))
+    (λ e x has. v.settled e x (without_has (c, r) m.kept.reserved x has))
     (λ d q has. v.clear d q (without_has (c, r) m.kept.reserved (d, q) has)) one holds v.same v.tabled
     (counted_count a (survey_frames gs) left v.small v.frames)
 
 -- ---------------------------------------------------------------- of a visit
 
 hunted_next : (start : Begun) (m : Machine) (b r : ℕ) (o : Order) (gs : List Gear) (left : ℕ) → Calm m → EnrolsHunted start m b r gs left → m.trace ≡ []
-    → m.last ≡ Some (Commit (Enrol b r)) → IsMap m.kept.reserved → IsGivenBy (with_kept m (Enrol b r)) o
-    → GoesTo start (with_kept m (Enrol b r)) o gs left
+    → m.last ≡ Some (Commit (Enrol b r)) → IsMap m.kept.reserved → IsGivenBy (with_kept m (Enrol b r)) o → GoesTo start (with_kept m (Enrol b r)) o gs left
 hunted_next start m b r o gs left calm v free last map g =
     hunts_on start (with_kept m (Enrol b r)) o r gs left
-    calm (enrolled_begins m b r o v.reserved free last map g)
-    (rest_next m (Enrol b r) free last) v.hunted
+    calm (enrolled_begins m b r o v.reserved free last map g) (rest_next m (Enrol b r) free last) v.hunted
     v.clear (λ e x has. settled x has (v.settled e x has))
-    v.above v.ready v.unnamed
-    (tabled_over (unseen start.gear) ((b, r) ∷ m.kept.enrolled) (m.kept.enrolled ++ (b, r) ∷ []) (those_drawn gs)
+    v.above v.ready v.unnamed (tabled_over (unseen start.gear) ((b, r) ∷ m.kept.enrolled) (m.kept.enrolled ++ (b, r) ∷ []) (those_drawn gs)
     (entry_last m.kept.enrolled (b, r))
     v.tabled)
     v.frames
@@ -131,16 +123,15 @@ hunted_next start m b r o gs left calm v free last map g =
     settled : (x : Assignment) → Has m.kept.reserved x → Has m.kept.enrolled x ⊎ (x.1 ≡ r) → Has (m.kept.enrolled ++ (b, r) ∷ []) x
     settled x has (inl entry) = has_before m.kept.enrolled (b, r) x entry
     settled x has (inr number) =
-        subst (Has (m.kept.enrolled ++ (b, r) ∷ []))
-        (sym (same_member (λ (q : Assignment). q.1) m.kept.reserved x (b, r) map.random_once has v.reserved number)) (has_last m.kept.enrolled (b, r))
+        subst (Has (m.kept.enrolled ++ (b, r) ∷ [])) (sym
+        (same_member (λ (q : Assignment). q.1) m.kept.reserved x (b, r) map.random_once has v.reserved number)) (has_last m.kept.enrolled (b, r))
 
 reserved_next : (start : Begun) (m : Machine) (a r : ℕ) (o : Order) (gs : List Gear) (left : ℕ) → Calm m → ReservesHunted start m a r gs left → m.trace ≡ []
     → m.last ≡ Some (Commit (Reserve a r)) → IsGivenBy (with_kept m (Reserve a r)) o → GoesTo start (with_kept m (Reserve a r)) o gs left
 reserved_next start m a r o gs left calm v free last g =
-    first_by start (with_kept m (Reserve a r)) o (visiting m.course r) gs left calm
-    (reserved_begins m a r o calm.untried free last g) (rest_next m (Reserve a r) free last)
-    calm.smooth
-    (record {
+    first_by start (with_kept m (Reserve a r)) o (visiting m.course r) gs left calm (reserved_begins m a r o calm.untried free last g)
+    (rest_next m (Reserve a r) free last)
+    calm.smooth (record {
       hunted = v.hunted;
       called = tt;
       clear = clear_reserved m.kept m.heard a r v.clear v.open_is;
@@ -149,11 +140,7 @@ reserved_next start m a r o gs left calm v free last g =
       at = (
         visits_first (with_record m.kept (Reserve a r)) r v.more (those_drawn gs) (7 + search_frames v.more) v.ready v.unnamed v.wanted v.drawn v.count
             (frames_reserved m.kept a r v.more (7 + search_frames v.more) (omega arith)),
-        record {
-          is = v.is;
-          reached = v.reached ∙ ap Found (sym (value_sought r));
-          least = λ k has. subst (λ j. j ≤ k) (sym (value_sought r)) (v.least k has);
-        },
+        record { is = v.is; reached = v.reached ∙ ap Found (sym (value_sought r)); least = λ k has. subst (λ j. j ≤ k) (sym (value_sought r)) (v.least k has) },
       );
       tabled = v.tabled;
       behind = v.more;
@@ -232,8 +219,7 @@ visited_bare r k n gs rest w =
 
 unnamed_turns : (start : Begun) (t : Machine) (o : Order) (r : SearchAddress) (gs : List Gear) (left : ℕ) → IsGivenBy t o → SurveyStands true start t gs left
     → IsAtHand t.kept gs → t.course.purpose ≡ Visiting → stage_of t.trace ≡ stage.Unnamed r
-    → Hunts true Visiting (stage.Unnamed r) t.kept t.heard t.course start gs left
-    → GoesTo start t o gs left
+    → Hunts true Visiting (stage.Unnamed r) t.kept t.heard t.course start gs left → GoesTo start t o gs left
 unnamed_turns start t o r gs left g st hand purpose is v =
     go (address_for t.kept.reserved (value_of r)) (found_address t.kept.reserved (value_of r)) (least_open t.kept t.heard) refl
     (subst (λ y. AfterMaskOn y t (course_by t o) r o) st.calm.smooth.way (g.ordered.unnamed r is)) where
@@ -303,8 +289,7 @@ unnamed_turns start t o r gs left g st hand purpose is v =
       go None none None least mask =
           first_by start t o (closing_by t.course BlockFull) gs left st.calm mask
           (ungiven_next t r false is st.calm.smooth.way (ap (λ x. nat_lt t.course.tally.draws 3 && is_some x) least ∙ never (nat_lt t.course.tally.draws 3))
-          ∙ never_full t t.course st.calm.smooth.unmissed) st.calm.smooth
-          (record {
+          ∙ never_full t t.course st.calm.smooth.unmissed) st.calm.smooth (record {
             stage_is = tt;
             well = (visited_bare r t.kept t.course.number gs v.rest w, all_taken t.kept t.heard least);
             settled = settled none;
@@ -321,8 +306,7 @@ unnamed_turns start t o r gs left g st hand purpose is v =
 
 withdrawn_turns : (start : Begun) (t : Machine) (o : Order) (r : SearchAddress) (a : ℕ) (gs : List Gear) (left : ℕ) → IsGivenBy t o
     → SurveyStands true start t gs left → IsKept t.kept → t.course.purpose ≡ Visiting → stage_of t.trace ≡ stage.Withdrawn r a
-    → Hunts true Visiting (stage.Withdrawn r a) t.kept t.heard t.course start gs left → IsUncontradicted t
-    → GoesTo start t o gs left
+    → Hunts true Visiting (stage.Withdrawn r a) t.kept t.heard t.course start gs left → IsUncontradicted t → GoesTo start t o gs left
 withdrawn_turns start t o r a gs left g st kept purpose is v agreed = go o g (g.ordered.found r a is) where
   w : Leaves r a t.kept t.course.number (those_drawn gs) v.rest
   w = v.at.0
@@ -331,8 +315,7 @@ withdrawn_turns start t o r a gs left g st kept purpose is v agreed = go o g (g.
   reserved = subst (λ (m : SearchAddress). Has t.kept.reserved (a, value_of m)) (sym w.searched) w.reserved
 
   tabled : AreTabled (unseen start.gear) ((a, value_of r) ∷ t.kept.enrolled) (those_drawn gs)
-  tabled = subst (λ (m : SearchAddress). AreTabled (unseen start.gear) ((a, value_of m) ∷ t.kept.enrolled) (those_drawn gs))
-      (sym w.searched) v.tabled
+  tabled = subst (λ (m : SearchAddress). AreTabled (unseen start.gear) ((a, value_of m) ∷ t.kept.enrolled) (those_drawn gs)) (sym w.searched) v.tabled
 
   same : value_of t.course.number ≡ value_of r
   same = ap value_of (sym w.searched)
@@ -360,14 +343,15 @@ withdrawn_turns start t o r a gs left g st kept purpose is v agreed = go o g (g.
     by : Has t.kept.enrolled x ⊎ (x.1 ≡ value_of t.course.number) → Has t.kept.enrolled x
     by (inl enrolled) = enrolled
     by (inr number) =
-        subst (Has t.kept.enrolled)
-        (sym (same_member (λ (q : Assignment). q.1) t.kept.reserved x (a, value_of r) kept.reserved.random_once has reserved (number ∙ same))) entry
+        subst (Has t.kept.enrolled) (sym (same_member (λ (q : Assignment). q.1) t.kept.reserved x (a, value_of r) kept.reserved.random_once has reserved
+        (number ∙ same))) entry
 
   go : (q : Order) → IsGivenBy t q → AfterFinding t a (value_of r) q → GoesTo start t q gs left
   go (Put p f) g has =
-      hunts_on start t (Put p f) (value_of r) gs left st.calm
-      (given.withdrawn_known t (Put p f) r a g is kept.enrolled has) (ap (begins_at t) is) v.hunted v.clear (settled has) up w.ready w.unnamed
-      (tabled_over (unseen start.gear) ((a, value_of r) ∷ t.kept.enrolled) t.kept.enrolled (those_drawn gs) (entry_twice t.kept.enrolled (a, value_of r) has)
+      hunts_on start t (Put p f) (value_of r) gs left st.calm (given.withdrawn_known t (Put p f) r a g is kept.enrolled has)
+      (ap (begins_at t) is) v.hunted v.clear (settled has) up w.ready w.unnamed
+      (tabled_over (unseen start.gear) ((a, value_of r) ∷ t.kept.enrolled) t.kept.enrolled (those_drawn gs)
+      (entry_twice t.kept.enrolled (a, value_of r) has)
       tabled)
       ends
   go (Commit x) g has = subst (λ y. GoesTo start t (Commit y) gs left) (sym has) (
@@ -392,8 +376,7 @@ withdrawn_turns start t o r a gs left g st kept purpose is v agreed = go o g (g.
 
 visiting_turns : (start : Begun) (t : Machine) (o : Order) (s : Stage) (gs : List Gear) (left : ℕ) → IsGivenBy t o → SurveyStands true start t gs left
     → IsAtHand t.kept gs → t.course.purpose ≡ Visiting → stage_of t.trace ≡ s → (s ≡ stage.Free → ⊥)
-    → Hunts true Visiting s t.kept t.heard t.course start gs left → IsUncontradicted t → turn_of Visiting t.course.number s ≡ None
-    → GoesTo start t o gs left
+    → Hunts true Visiting s t.kept t.heard t.course start gs left → IsUncontradicted t → turn_of Visiting t.course.number s ≡ None → GoesTo start t o gs left
 visiting_turns start t o stage.Free gs left g st hand purpose is running v agreed over = absurd (running refl)
 visiting_turns start t o (stage.HighSent high) gs left g st hand purpose is running v agreed over = absurd (cc)
 visiting_turns start t o (stage.MiddleSent high middle) gs left g st hand purpose is running v agreed over = absurd (cc)
@@ -408,10 +391,8 @@ visiting_turns start t o _ gs left g st hand purpose is running v agreed over = 
 -- ---------------------------------------------------------------- of whatever transaction
 
 -- after a frame that was heard
-pub turned : (start : Begun) (t : Machine) (o : Order) (gs : List Gear) (left : ℕ) → IsGivenBy t o → SurveyStands true start t gs left
-    → IsAtHand t.kept gs → IsUncontradicted t → IsWhole (machine_ordered t o) → IsNoEnrolment t.last
-    → (stage_of t.trace ≡ stage.Free → ⊥)
-    → GoesTo start t o gs left
+pub turned : (start : Begun) (t : Machine) (o : Order) (gs : List Gear) (left : ℕ) → IsGivenBy t o → SurveyStands true start t gs left → IsAtHand t.kept gs
+    → IsUncontradicted t → IsWhole (machine_ordered t o) → IsNoEnrolment t.last → (stage_of t.trace ≡ stage.Free → ⊥) → GoesTo start t o gs left
 turned start t o gs left g st hand agreed whole last running = by (turn_of t.course.purpose t.course.number (stage_of t.trace)) refl where
   go : (p : Purpose) → t.course.purpose ≡ p → SurveyAt true p (stage_of t.trace) t.kept t.heard t.asked t.course start gs left
       → turn_of p t.course.number (stage_of t.trace) ≡ None → GoesTo start t o gs left
@@ -424,8 +405,8 @@ turned start t o gs left g st hand agreed whole last running = by (turn_of t.cou
   go Hunting purpose at over = hunting_turns start t o (stage_of t.trace) gs left g st purpose refl running at over
   go Visiting purpose at over = visiting_turns start t o (stage_of t.trace) gs left g st hand purpose refl running at agreed over
   go (Closing e) purpose at over =
-      subst (λ q. GoesTo start t q gs left)
-      (sym (close_ends t o e (stage_of t.trace) g purpose refl running at.stage_is st.trace.finding st.calm.untried)) (at.well, at.tabled, at.settled)
+      subst (λ q. GoesTo start t q gs left) (sym (close_ends t o e (stage_of t.trace) g purpose refl running at.stage_is st.trace.finding st.calm.untried))
+      (at.well, at.tabled, at.settled)
   go Opening purpose at over = absurd at
   go Probing purpose at over = absurd at
   go PassingOver purpose at over = absurd at

@@ -27,8 +27,7 @@ pub leaves_short : (c : Command) → LeavesNames c → LeavesShort c
 leaves_short (Program short) leaves = absurd leaves
 leaves_short _ leaves = tt
 
-pub lost_after : (c : Command) (gs : List Gear) (numbers : List ℕ) → LeavesNames c
-    → count_by is_lost (row_after Everyone c 0 gs numbers) ≡ count_by is_lost gs
+pub lost_after : (c : Command) (gs : List Gear) (numbers : List ℕ) → LeavesNames c → count_by is_lost (row_after Everyone c 0 gs numbers) ≡ count_by is_lost gs
 lost_after c gs numbers leaves =
     count_same is_lost is_lost gs (row_after Everyone c 0 gs numbers) (row_length Everyone c 0 gs numbers)
     (λ k h. by (gear_of gs k) (gear_of (row_after Everyone c 0 gs numbers) k)
@@ -36,8 +35,7 @@ lost_after c gs numbers leaves =
       by : (g h : Gear) → SameNames g h → is_lost h ≡ is_lost g
       by g h same = rw (same.0, same.1, same.2) refl
 
-pub bare_after : (c : Command) (gs : List Gear) (numbers : List ℕ) → LeavesNames c
-    → count_by is_bare (row_after Everyone c 0 gs numbers) ≡ count_by is_bare gs
+pub bare_after : (c : Command) (gs : List Gear) (numbers : List ℕ) → LeavesNames c → count_by is_bare (row_after Everyone c 0 gs numbers) ≡ count_by is_bare gs
 bare_after c gs numbers leaves = leaving.count_bare_after c gs numbers (leaves_short c leaves)
 
 pub drew_after : (c : Command) (gs : List Gear) (numbers : List ℕ) → LeavesNames c
@@ -98,8 +96,8 @@ pub stays_initialised : (c : Command) (gs : List Gear) (numbers : List ℕ) → 
     → AreOpening stage.Initialised (row_after Everyone c 0 gs numbers)
 stays_initialised c gs numbers is all k in_row on =
     let there : k < length gs = subst (λ n. k < n) (row_length Everyone c 0 gs numbers) in_row in
-    after_at c (λ g h. (g.powered ≡ true → IsOpening stage.Initialised g) → h.powered ≡ true → IsOpening stage.Initialised h)
-    (λ g off was up. absurd (off up)) (λ g x up was still. asks_initialised c g x is (was up)) gs numbers k there (all k there) on
+    after_at c (λ g h. (g.powered ≡ true → IsOpening stage.Initialised g) → h.powered ≡ true → IsOpening stage.Initialised h) (λ g off was up. absurd (off up))
+    (λ g x up was still. asks_initialised c g x is (was up)) gs numbers k there (all k there) on
 
 -- then gear without short address is wanted, and no other
 pub woken_count : (gs : List Gear) → AreOpening stage.Initialised gs → count_by is_wanted gs ≡ count_by is_bare gs
@@ -124,8 +122,7 @@ silent_or Damaged = inr (refl, λ e. cc)
 
 -- COMPARE under FFFFFF is answered if some gear has no short address
 pub called_answer : (gs : List Gear) (r : SearchAddress) (h : Answer) → AreOpening stage.Initialised gs → AreNumbered gs → Seek gs r → value_of r ≡ MASK24
-    → h ≡ heard_of (answers_of Everyone Compare 0 gs)
-    → ((is_yes h ≡ false) × (count_by is_bare gs ≡ 0)) ⊎ ((is_yes h ≡ true) × (0 < count_by is_bare gs))
+    → h ≡ heard_of (answers_of Everyone Compare 0 gs) → ((is_yes h ≡ false) × (count_by is_bare gs ≡ 0)) ⊎ ((is_yes h ≡ true) × (0 < count_by is_bare gs))
 called_answer gs r h all numbered seek top heard = go (silent_or h) where
   count : count_by is_wanted gs ≡ count_by is_bare gs
   count = woken_count gs all
@@ -186,8 +183,8 @@ kept_none : (given : Bool) (a : ℕ) (o : Option ℕ) → (if given then Some a 
 kept_none true a o e = absurd (cc)
 kept_none false a o e = e
 
-low_taken : (c : Command) (g : Gear) (x : ℕ) → IsByteLow c → (g.short ≡ None → g.search.low < 256)
-    → (gear_taken c x g).short ≡ None → (gear_taken c x g).search.low < 256
+low_taken : (c : Command) (g : Gear) (x : ℕ) → IsByteLow c → (g.short ≡ None → g.search.low < 256) → (gear_taken c x g).short ≡ None
+    → (gear_taken c x g).search.low < 256
 low_taken (SearchLow byte) g x is was none = go (is_active g.state) where
   go : (b : Bool) → (if b then record g.search { low = byte } else g.search).low < 256
   go true = is
@@ -271,6 +268,7 @@ pub undrawn_once : (gs : List Gear) (numbers : List ℕ) → AreOpening stage.In
     → OfPowered (row_after Everyone Randomise 0 gs numbers) (λ g. g.short ≡ None → g.random ≡ MASK24)
 undrawn_once gs numbers gear all k in_row on none =
     let there : k < length gs = subst (λ n. k < n) (row_length Everyone Randomise 0 gs numbers) in_row in
-    let same = after_at Randomise (λ g h. (g.powered ≡ true → g.half ≡ None) → SameNames g h) (λ g off was. (refl, refl, refl))
+    let same =
+    after_at Randomise (λ g h. (g.powered ≡ true → g.half ≡ None) → SameNames g h) (λ g off was. (refl, refl, refl))
     (λ g x up was. (refl, refl, rw (was up) refl)) gs numbers k there (λ up. (gear k there up).0) in
     same.2 ∙ all k there (sym same.0 ∙ on) (sym same.1 ∙ none)

@@ -1,4 +1,5 @@
-use Rattle.std.proofs.Common.{inr}
+use Rattle.std.proofs.Common.{inl, inr, refl}
+use Rattle.dali_commission_replaced.proofs.Cut.{not_there}
 use Rattle.dali_commission_replaced.proofs.confirming.Asking.others_there.Goals as goal
 
 pub returns-then-has_heard-clause-failed : goal.returns-then-has_heard-clause-failed
@@ -8,7 +9,13 @@ returns-then-has_heard-clause-failed g c =
       _,
       c.in-Ok.ensures.seen.1,
       c.in-Ok.ensures.seen.2,
-      inr (c.in-Ok-ask.ensures.heard.0, c.in-Ok-ask.ensures.heard.1, c.in-Ok-ask.ensures.heard.2),
+      inr (
+        c.in-Ok-ask.ensures.heard.0,
+        c.in-Ok-ask.ensures.heard.1,
+        c.in-Ok-ask.ensures.heard.2,
+        not_there c.are_there.result _ _ _ _ c.are_there.ensures c.if-are_there.false c.deref.ensures.value c.in-Ok-ask.ensures.heard.3,
+        inl c.say_missing.ensures,
+      ),
     )
 
 pub returns-else-has_heard-clause-failed : goal.returns-else-has_heard-clause-failed
@@ -18,5 +25,11 @@ returns-else-has_heard-clause-failed g c =
       _,
       c.in-Ok.ensures.seen.1,
       c.in-Ok.ensures.seen.2,
-      inr (c.in-Ok-ask.ensures.heard.0, c.in-Ok-ask.ensures.heard.1, c.in-Ok-ask.ensures.heard.2),
+      inr (
+        c.in-Ok-ask.ensures.heard.0,
+        c.in-Ok-ask.ensures.heard.1,
+        c.in-Ok-ask.ensures.heard.2,
+        not_there c.are_there.result _ _ _ _ c.are_there.ensures c.if-are_there.false c.deref.ensures.value c.in-Ok-ask.ensures.heard.3,
+        inr refl,
+      ),
     )
