@@ -5,7 +5,7 @@ pub returns-clause-done : goal.returns-clause-done
 returns-clause-done g c = (
   c.does-done.result,
   c.writes-written.result,
-  rw c.new.ensures at c.does-done.ensures,
+  rw c.new-session.ensures at c.does-done.ensures,
   c.ended.ensures.same ∙ c.or_refused.ensures,
   c.writes-written.ensures,
 )
