@@ -54,6 +54,7 @@ struct course {
     struct dali_record addition PLACED;
     struct dali_table table PLACED;
     struct dali_passes passes PLACED;
+    struct dali_progress progress PLACED;
     struct dali_levels levels PLACED;
     struct dali_receiver receiver PLACED;
     struct dali_told frame PLACED;
@@ -85,7 +86,7 @@ struct call {
     struct figure figures[BANDS];
 };
 
-static uint32_t stacks[25][STACK_WORDS] ALIGNED;
+static uint32_t stacks[26][STACK_WORDS] ALIGNED;
 static struct course course;
 /* Of the two calls that take a step, those that ordered a later frame of a transaction, for which the bus waits. */
 static struct figure later[2][BANDS];
@@ -136,6 +137,12 @@ static int ready_records(struct course *it, struct arguments *arguments)
 static int ready_table(struct course *it, struct arguments *arguments)
 {
     *arguments = (struct arguments){{AT(it->machine), AT(it->table)}};
+    return 1;
+}
+
+static int ready_progress(struct course *it, struct arguments *arguments)
+{
+    *arguments = (struct arguments){{AT(it->machine), AT(it->progress)}};
     return 1;
 }
 
@@ -255,6 +262,8 @@ static struct call calls[] = {
     CALL(dali_machine_last, ready_last),
     CALL(dali_machine_records, ready_records),
     CALL(dali_machine_table, ready_table),
+    CALL(dali_machine_progress, ready_progress),
+    CALL(dali_machine_stop, ready_go),
     CALL(dali_machine_new, ready_machine_new),
     CALL(dali_records_add, ready_records_add),
     CALL(dali_records_new, ready_records_new),
@@ -276,10 +285,10 @@ static struct call calls[] = {
 
 #define CALLS (sizeof calls / sizeof *calls)
 /* The first of those at the pins, of those that take a time, and of those that take an edge. */
-#define AT_PINS 12
-#define TAKE_TIME 15
-#define TAKE_EDGE 17
-#define AT_PORTS 19
+#define AT_PINS 14
+#define TAKE_TIME 17
+#define TAKE_EDGE 19
+#define AT_PORTS 21
 /* How often each trouble comes, per million frames, and when a machine that does not end is left. */
 #ifndef TROUBLED
 #define TROUBLED 0
