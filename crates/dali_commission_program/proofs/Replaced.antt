@@ -10,6 +10,7 @@ use Rattle.dali_commission_said.specs.declared.{failure.Failure.Failure, said.Sa
 use Rattle.dali_commission_tasks.specs.declared.tasks.Replacement.{Replacement}
 use Rattle.dali_commission_stores.specs.{Calls.{Call, Look}, declared.records.Seen.Seen}
 use Rattle.dali_commission_replaced.specs.Asking.{HasAskedOthers, IsConfirmed, HasGivenSo, GivesFirst, HasReplacedSo, HasReplaced}
+use Rattle.dali_commission_replaced.specs.Accepting.{HasAcceptedSo, HasAccepted}
 use Rattle.dali_commission_program.specs.Nothing.{IsNothingPut, HasLookedIn}
 use Rattle.dali_commission_program.proofs.Growing.{Grows, IsMore, stays, joined, more_then, grown, more_is_not_nothing}
 use Rattle.dali_commission_program.proofs.{Asking.answered_more, Ending.ok_err, Ending.at_last, Mended.runs_put}
@@ -96,3 +97,20 @@ replaced is_up is_sound holds kept_of block_of made saw opens remaining contents
           it.plan.stores it.given it.before it.after it.gave)
           (answered_more wanted.short (heard.Random random) _ _ it.last)),
     )
+
+-- a luminaire was accepted
+pub accepted : {F K R W : Type 0} (kept_of : K → Kept) (block_of : K → Block) (made : F → F → Call → Type 0) (saw : F → Look → Type 0)
+    (opens : F → Seen → K → Type 0) (remaining : R → Option (List ℕ)) (contents : W → Option (List ℕ)) (told : Said → Type 0) (wanted : Replacement)
+    (records : List (String Global)) (random : ℕ) (was now : F) (x y : DriverLink R W)
+    → HasAccepted kept_of block_of made saw opens remaining contents told wanted records random was now x y
+    → IsMore (talk_of remaining contents x) (talk_of remaining contents y)
+accepted kept_of block_of made saw opens remaining contents told wanted records random was now x y
+    (names, at, Some swap, lies, apart, settled, (same, is)) =
+    confirmed_more saw told wanted.short wanted.missing.items at (names_of swap) random (talk_of remaining contents x) (talk_of remaining contents y) is
+accepted kept_of block_of made saw opens remaining contents told wanted records random was now x y
+    (names, at, None, lies, apart, settled, anew) =
+    let it : HasAcceptedSo kept_of block_of made saw opens told wanted names anew.all anew.news random at anew.at (talk_of remaining contents x)
+    (talk_of remaining contents y) = anew.accepted in
+    more_then (more_then (answered_more wanted.short (heard.Random it.given) (talk_of remaining contents x) it.there.0 it.there.1)
+    (grown (others_more wanted.short (Given it.given) it.table wanted.missing.items it.there.0 it.before it.there.2)))
+    (grown (answered_more wanted.short (heard.Random random) it.before (talk_of remaining contents y) it.last))

@@ -25,6 +25,7 @@ use Rattle.dali_commission_stores.specs.Lent.{IsLent, IsOpened}
 use Rattle.dali_commission_asked.specs.Came.{IsShowing, IsCheckOf}
 use Rattle.dali_commission_cleared.specs.Clearing.{HasCleared}
 use Rattle.dali_commission_mended.specs.Tellings.{HasRunOver, IsMendOf}
+use Rattle.dali_commission_replaced.specs.Accepting.{IsAcceptance}
 use Rattle.dali_commission_replaced.specs.Asking.{IsReplacement}
 use Rattle.dali_commission_words.specs.Words.{Values, IsAsked}
 use Rattle.dali_commission_program.specs.Object.{report_text}
@@ -66,6 +67,10 @@ HasDone is_up is_sound holds kept_of block_of made saw opens remaining contents 
     others was now x y result (task.Replace wanted) =
     IsReplacement is_up is_sound holds kept_of block_of made saw opens remaining contents told
     wanted records was now x.driver y.driver result
+HasDone is_up is_sound holds kept_of block_of made saw opens remaining contents told wrote records
+    others was now x y result (task.Accept wanted) =
+    IsAcceptance kept_of block_of made saw opens remaining contents told wanted records was now
+    x.driver y.driver result
 HasDone is_up is_sound holds kept_of block_of made saw opens remaining contents told wrote records
     others was now x y result (task.Mend wanted) =
     IsMendOf is_up is_sound holds kept_of block_of saw opens remaining contents told others wanted

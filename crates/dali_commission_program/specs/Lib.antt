@@ -1,3 +1,4 @@
+pub mod Accepted
 pub mod Done
 pub mod Nothing
 pub mod Ruled

@@ -1,8 +1,10 @@
 //! What follows from the contracts of this crate, in its words. Programs don't call these.
 
 ghost use Rattle.std.specs.Prelude.{◌≡◌, ℕ, ◌<◌, false};
+ghost use Rattle.dali_statement.specs.Page.{Gear, IsPlan, Plan};
 ghost use Rattle.dali_commissioning.specs.Drivers.{Talk};
 ghost use Rattle.dali_commissioning.specs.Rules.{AsksByRules};
+ghost use Rattle.dali_commission_program.specs.Accepted.{IsAccepted};
 ghost use Rattle.dali_commission_program.specs.Nothing.{PutsSomething, PutsOrLooks, RefusedPutsSomething};
 ghost use Rattle.dali_commission_program.specs.Ruled.{PutsSo, PutsOver, AsksOnBus};
 ghost use Rattle.dali_commission_replaced.specs.Ruled.{ReplacesByRules};
@@ -39,6 +41,9 @@ where
     ensures run { (setup : Setup) → PutsSomething F.Open.is_up F.Open.is_sound F.Open.holds
         F.Open.kept F.Open.block F.made F.saw F.opens R.remaining W.contents (S.told _system.now)
         (S.wrote _system.now) (task.Run setup) }
+    ensures accept { (wanted : Replacement) → PutsSomething F.Open.is_up F.Open.is_sound F.Open.holds F.Open.kept
+        F.Open.block F.made F.saw F.opens R.remaining W.contents (S.told _system.now) (S.wrote _system.now)
+        (task.Accept wanted) }
     ensures mend { (wanted : Mend) → PutsSomething F.Open.is_up F.Open.is_sound F.Open.holds F.Open.kept F.Open.block
         F.made F.saw F.opens R.remaining W.contents (S.told _system.now) (S.wrote _system.now) (task.Mend wanted) }
     ensures refused { RefusedPutsSomething }
@@ -47,10 +52,11 @@ where
 {}
 
 /// WHAT A TASK PUTS KEEPS THE RULES OF THE PAGE of `dali_statement`, if it ended well: each line is that of an act of
-/// a sender that keeps to its scripts, by the records of its store, and none is of another. A check and `identify` need
-/// no records. A run does that mends nothing, over the store that was opened for it. A replacement does over the store
-/// for the one short address, and over records in memory while it looks for the new gear. What a run put that did not
-/// begin, or was left while its machines ran, keeps the rules too (`survey_left`, `start_left`).
+/// a sender that keeps to its scripts, by the records of its store, and none is of another. A check, `identify` and
+/// `replace --accept` need no records: these are questions. A run does that mends nothing, over the store that was
+/// opened for it. A replacement does over the store for the one short address, and over records in memory while it
+/// looks for the new gear. What a run put that did not begin, or was left while its machines ran, keeps the rules too
+/// (`survey_left`, `start_left`).
 ///
 /// To mend and to clear need what the rules forbid.
 pub fn tasks_keep_the_rules_of_the_page<S, F, R, W>(_system: &S)
@@ -73,6 +79,9 @@ where
         F.Open.kept F.Open.block F.made F.saw F.opens R.remaining W.contents (S.told _system.now)
         (S.wrote _system.now) (task.Replace wanted)
         (λ was records x y. ReplacesByRules F.Open.is_up F.Open.is_sound F.Open.holds wanted.short x y) }
+    ensures accept { (wanted : Replacement) → wanted.short < 64 → PutsSo F.Open.is_up F.Open.is_sound F.Open.holds
+        F.Open.kept F.Open.block F.made F.saw F.opens R.remaining W.contents (S.told _system.now)
+        (S.wrote _system.now) (task.Accept wanted) (λ was records x y. AsksByRules x y) }
     ensures survey_left { WhatASurveyLeavesKeepsRules F.Open.is_up F.Open.is_sound F.Open.holds }
     ensures start_left { WhatAStartLeavesKeepsRules F.Open.is_up F.Open.is_sound F.Open.holds }
 {}
@@ -86,3 +95,10 @@ pub fn what_tasks_put_keeps_the_promise<F: Stores>()
 {
     programs_keep_the_promise();
 }
+
+/// A GEAR THAT WAS ACCEPTED, and all others, are those of a plan of the page of `dali_statement`, with the records that
+/// are there then: histories may begin there. All others keep both addresses, and all other entries stay true. The old
+/// gear must never come back.
+pub fn accepted_gear_are_a_plan()
+    ensures { (p q : Plan) (g a : ℕ) (old new : Gear) → IsPlan p → IsAccepted p g a old new q → IsPlan q }
+{}

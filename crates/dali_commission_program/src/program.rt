@@ -14,7 +14,7 @@ use crate::writing::{Text, Writes};
 use dali_commission_asked::{checks, identify};
 use dali_commission_cleared::clears;
 use dali_commission_mended::{Running, mends};
-use dali_commission_replaced::{note_first, replaces};
+use dali_commission_replaced::{accepts, note_first, replaces};
 use dali_commission_said::{Failure, Manner, Report, Session, Voice, say, why_said};
 use dali_commission_stores::{Reading, Stores, lend, lend_copy};
 use dali_commission_tasks::{Asked, TableForm, Task};
@@ -97,6 +97,23 @@ where
                 Err(failure) => Err(failure),
             }
         }
+        Task::Accept(wanted) => {
+            match accepts(
+                system,
+                stores,
+                &mut session.driver,
+                manner,
+                &asked.records,
+                wanted,
+                &mut session.report,
+            ) {
+                Ok(_heard) => {
+                    note_first(alloc, stores, name, &mut session.report);
+                    Ok(())
+                }
+                Err(failure) => Err(failure),
+            }
+        }
         Task::Mend(wanted) => mends(system, stores, session, manner, asked, wanted),
         Task::Clear => clears(
             system,
@@ -135,7 +152,7 @@ fn refused_name(asked: &Asked) -> Option<&str>
 {
     match &asked.task {
         Task::Run(_) | Task::Check | Task::Identify(_) | Task::Table(_) => first(&asked.records),
-        Task::Replace(_) | Task::Mend(_) | Task::Clear => None,
+        Task::Replace(_) | Task::Accept(_) | Task::Mend(_) | Task::Clear => None,
     }
 }
 
@@ -151,6 +168,7 @@ fn end(task: &Task, ended: &Result<(), Failure>) -> (u8, &'static str)
         (Ok(()), Task::Identify(_)) => (0, "shown"),
         (Ok(()), Task::Table(_)) => (0, "written"),
         (Ok(()), Task::Replace(_)) => (0, "replaced"),
+        (Ok(()), Task::Accept(_)) => (0, "accepted"),
         (Ok(()), Task::Mend(_)) => (0, "mended"),
         (Ok(()), Task::Clear) => (0, "cleared"),
     }

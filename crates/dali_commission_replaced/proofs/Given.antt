@@ -22,14 +22,14 @@ use Rattle.dali_commission_replaced.specs.Asking.{HasAskedOthers, given_as, HasG
 use Rattle.dali_commission_replaced.specs.Asking.{all_shorts, IsPlanned, HasReplacedSo, HasReplacedAnew, HasReplaced}
 use Rattle.dali_commission_replaced.specs.Tellings.{ConfirmedTold}
 
-err_ok : {T : Type 0} (e : Failure) (it : T) → Err e ≡ Ok it → ⊥
+pub err_ok : {T : Type 0} (e : Failure) (it : T) → Err e ≡ Ok it → ⊥
 err_ok e it is = false≢true (ap (λ r. is_ok r) is)
 
 abbrev value_or : {T : Type 0} → T → Result T Failure → T
 value_or a (Ok it) = it
 value_or a (Err e) = a
 
-ok_same : {T : Type 0} (a b : T) (r : Result T Failure) → r ≡ Ok b → value_or a r ≡ b
+pub ok_same : {T : Type 0} (a b : T) (r : Result T Failure) → r ≡ Ok b → value_or a r ≡ b
 ok_same a b r is = ap (λ it. value_or a it) is
 
 -- THE ADDRESS WAS GIVEN, and that was said; or it was given, and the records could not be read then.

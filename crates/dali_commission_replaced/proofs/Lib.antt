@@ -1,3 +1,4 @@
+mod Accepted
 mod Cut
 pub mod Finished
 pub mod Given

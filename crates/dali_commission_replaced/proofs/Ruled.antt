@@ -17,6 +17,7 @@ use Rattle.dali_commission_tasks.specs.declared.tasks.Replacement.{Replacement}
 use Rattle.dali_commission_stores.specs.{Calls.{Call, Look}, declared.records.Seen.Seen}
 use Rattle.dali_commission_asked.proofs.Ruled.{at_last, ok_err}
 use Rattle.dali_commission_replaced.specs.Asking.{HasAskedOthers, IsConfirmed, HasGivenSo, GivesFirst, HasReplacedSo, HasReplaced}
+use Rattle.dali_commission_replaced.specs.Accepting.{HasAcceptedSo, HasAccepted}
 use Rattle.dali_commission_replaced.specs.Ruled.{GivesByRules, ReplacesByRules}
 
 -- WHAT A REPLACEMENT PUTS KEEPS THE RULES OF THE PAGE.
@@ -135,3 +136,22 @@ replaced is_up is_sound holds kept_of block_of made saw opens remaining contents
     (given_first is_up is_sound holds kept_of block_of made saw opens remaining contents told wanted.short it.plan.come it.plan.table it.name it.plan.stores
     it.given it.before it.after it.gave)
     (answered wanted.short (heard.Random random) (talk_of remaining contents it.after) (talk_of remaining contents y) short it.last)
+
+-- WHAT `replace --accept` PUTS KEEPS THEM: questions alone.
+pub accepted : {F K R W : Type 0} (kept_of : K → Kept) (block_of : K → Block) (made : F → F → Call → Type 0) (saw : F → Look → Type 0)
+    (opens : F → Seen → K → Type 0) (remaining : R → Option (List ℕ)) (contents : W → Option (List ℕ)) (told : Said → Type 0) (wanted : Replacement)
+    (records : List (String Global)) (random : ℕ) (was now : F) (x y : DriverLink R W) → wanted.short < 64
+    → HasAccepted kept_of block_of made saw opens remaining contents told wanted records random was now x y
+    → AsksByRules (talk_of remaining contents x) (talk_of remaining contents y)
+accepted kept_of block_of made saw opens remaining contents told wanted records random was now x y short
+    (names, at, Some swap, lies, apart, settled, (same, is)) =
+    confirmed saw told wanted.short wanted.missing.items at (names_of swap) random (talk_of remaining contents x) (talk_of remaining contents y) short is
+accepted kept_of block_of made saw opens remaining contents told wanted records random was now x y short
+    (names, at, None, lies, apart, settled, anew) =
+    let it : HasAcceptedSo kept_of block_of made saw opens told wanted names anew.all anew.news random at anew.at (talk_of remaining contents x)
+    (talk_of remaining contents y) = anew.accepted in
+    asks_both (talk_of remaining contents x) it.before (talk_of remaining contents y)
+    (asks_both (talk_of remaining contents x) it.there.0 it.before
+    (answered wanted.short (heard.Random it.given) (talk_of remaining contents x) it.there.0 short it.there.1)
+    (others_asked wanted.short (Given it.given) it.table wanted.missing.items it.there.0 it.before short it.there.2))
+    (answered wanted.short (heard.Random random) it.before (talk_of remaining contents y) short it.last)

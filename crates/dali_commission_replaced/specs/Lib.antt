@@ -1,3 +1,4 @@
+pub mod Accepting
 pub mod Asking
 pub mod Cut
 pub mod Due

@@ -141,11 +141,11 @@ struct Plan {
 
 /// A swap of files that may begin.
 #[derive(Drop)]
-struct DueSwap {
-    swap: Swap,
+pub(crate) struct DueSwap {
+    pub swap: Swap,
     /// The new gear that was heard.
-    confirmed: Confirmed,
-    news: Vec<Kept>,
+    pub confirmed: Confirmed,
+    pub news: Vec<Kept>,
 }
 
 /// The number of the file from whose block the short address is given.
@@ -170,7 +170,7 @@ fn giver(wanted: &Replacement, all: &[Kept]) -> Result<usize, Failure>
 }
 
 /// What is to be in each new table beside the new gear.
-fn table(wanted: &Replacement, all: &[Kept]) -> Result<Kept, Failure>
+pub(crate) fn table(wanted: &Replacement, all: &[Kept]) -> Result<Kept, Failure>
     ensures all { IfOk result (λ table. IsGathered wanted.now.short all.now table) }
     ensures without { IfOk result (λ table. Lacks wanted.now.short table) }
 {
@@ -191,15 +191,15 @@ fn table(wanted: &Replacement, all: &[Kept]) -> Result<Kept, Failure>
 
 /// Who replaces a luminaire in the records of a site.
 #[derive(Drop)]
-struct Replacing<'a, S> {
-    asking: &'a Asking<'a, S>,
+pub(crate) struct Replacing<'a, S> {
+    pub asking: &'a Asking<'a, S>,
     /// Where the files lie.
-    names: &'a [String],
-    report: &'a mut Report,
+    pub names: &'a [String],
+    pub report: &'a mut Report,
 }
 
 /// Whether another one's new records have come no further than the giver's.
-fn is_behind(other: &Come, come: &Come) -> bool
+pub(crate) fn is_behind(other: &Come, come: &Come) -> bool
     ensures { IsTrue result ↔ ((other.now ≡ Come.Nowhere) ⊎ (other.now ≡ come.now)) }
 {
     matches!(other, Come::Nowhere) || other == come
@@ -207,7 +207,7 @@ fn is_behind(other: &Come, come: &Come) -> bool
 
 impl<S: Voice + AllocGlobal> Replacing<'_, S> {
     /// How far the new file of a name has come, beside what the old one has.
-    fn come<F: Stores>(
+    pub fn come<F: Stores>(
         &self,
         stores: &F,
         name: &str,
@@ -390,7 +390,7 @@ impl<S: Voice + AllocGlobal> Replacing<'_, S> {
     }
 
     /// Makes the new tables complete, once the giver's new file has this one. The swap that is due then.
-    fn due<F: Stores, R: Read, W: Write>(
+    pub fn due<F: Stores, R: Read, W: Write>(
         &self,
         stores: &mut F,
         driver: &mut DriverLink<R, W>,
@@ -493,7 +493,7 @@ fn put_aside<S: Voice + AllocGlobal, F: Stores>(
 }
 
 /// The same, if a replacement is to begin again.
-fn put_aside_if<S: Voice + AllocGlobal, F: Stores>(
+pub(crate) fn put_aside_if<S: Voice + AllocGlobal, F: Stores>(
     is_again: bool,
     system: &S,
     stores: &mut F,
@@ -522,7 +522,11 @@ fn copy_all(alloc: Global, names: &[String], copies: &mut Vec<String>) -> Result
 }
 
 /// No journal of a swap lies beside any of these files. They may have been announced while the files were opened.
-fn are_unannounced<F: Stores>(alloc: Global, stores: &F, names: &[String]) -> Result<(), Failure>
+pub(crate) fn are_unannounced<F: Stores>(
+    alloc: Global,
+    stores: &F,
+    names: &[String],
+) -> Result<(), Failure>
     ensures { OnOk result (AreUnannounced F.saw stores.now names.now) }
 {
     let [name, more @ ..] = names else {
@@ -607,7 +611,7 @@ fn add_places<S: Voice + AllocGlobal, F: Stores>(
 }
 
 /// Where the files of these names lie.
-fn places_of<S: Voice + AllocGlobal, F: Stores>(
+pub(crate) fn places_of<S: Voice + AllocGlobal, F: Stores>(
     system: &S,
     stores: &F,
     records: &[String],
@@ -642,7 +646,7 @@ fn is_apart_from(alloc: Global, name: &str, others: &[String]) -> Result<bool, F
 }
 
 /// Whether no file is another one, and none lies where another one's new file is to lie.
-fn are_apart(alloc: Global, names: &[String]) -> Result<bool, Failure>
+pub(crate) fn are_apart(alloc: Global, names: &[String]) -> Result<bool, Failure>
     ensures { IfOk result (λ are. IsTrue are ↔ AreApart names.now) }
 {
     let [name, more @ ..] = names else {

@@ -90,6 +90,7 @@ end_name task.Check (Ok done) = codes "as-recorded"
 end_name (task.Identify a) (Ok done) = codes "shown"
 end_name (task.Table form) (Ok done) = codes "written"
 end_name (task.Replace wanted) (Ok done) = codes "replaced"
+end_name (task.Accept wanted) (Ok done) = codes "accepted"
 end_name (task.Mend wanted) (Ok done) = codes "mended"
 end_name task.Clear (Ok done) = codes "cleared"
 end_name asked (Err failure) = name_of failure
@@ -97,6 +98,7 @@ end_name asked (Err failure) = name_of failure
 -- the records that a refusal is about; which of several files it is, was said before
 abbrev pub refused_name : Task → List (String Global) → Option (List ℕ)
 refused_name (task.Replace wanted) records = None
+refused_name (task.Accept wanted) records = None
 refused_name (task.Mend wanted) records = None
 refused_name task.Clear records = None
 refused_name _ records = option_map (λ name. string_bytes name) (slice_get records 0)

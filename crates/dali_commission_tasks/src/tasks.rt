@@ -53,6 +53,8 @@ pub enum Task {
     Table(TableForm),
     /// A new luminaire is to have the short address of one that is gone.
     Replace(Replacement),
+    /// The luminaire that answers at a short address is to take the place of the one that the tables have there.
+    Accept(Replacement),
     /// Gear that share a short address are to be told apart.
     Mend(Mend),
     /// All gear are to lose their short addresses, and the files of records are put aside.

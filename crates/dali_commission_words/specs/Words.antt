@@ -125,7 +125,13 @@ IsTask name values others files (task.Identify a) =
     (name ≡ codes "identify") × IsShort (value_of (codes "address") values) a
 IsTask name values others files (task.Table form) = (name ≡ codes "table") × IsForm values form
 IsTask name values others files (task.Replace wanted) =
-    (name ≡ codes "replace") × IsReplacement values files wanted
+    (name ≡ codes "replace")
+    × IsReplacement values files wanted
+    × (Has (codes "accept") values → ⊥)
+IsTask name values others files (task.Accept wanted) =
+    (name ≡ codes "replace")
+    × IsReplacement values files wanted
+    × Has (codes "accept") values
 IsTask name values others files (task.Mend wanted) =
     (name ≡ codes "mend") × IsMend values others wanted
 IsTask name values others files task.Clear = (name ≡ codes "clear") × Has (codes "yes") values

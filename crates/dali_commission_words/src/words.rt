@@ -56,7 +56,8 @@ by --records. A new file is made beside each; when all are complete they take th
 as FILE.before-1, FILE.before-2 and so on. It refuses and changes nothing if a gear still answers at the address, if
 another luminaire of a table does not answer, or if it does not find exactly one new luminaire. Before any file takes
 the place of another, and before it says that it is done, it has heard the new luminaire answer at the address. You may
-stop it at any moment, also by a power cut: the same line goes on where it was, or with --again anew.";
+stop it at any moment, also by a power cut: the same line goes on where it was, or with --again anew. With --accept no
+frame changes any luminaire: the one that answers at the address is the new one. The old one must never come back.";
 
 const MEND: &str = "\
 Tells gear apart that share a short address, and lets all but one of them lose it; then gives each of these another one.
@@ -218,6 +219,12 @@ const REPLACE_WORDS: &[Word] = &[
         name: "again",
         value: "",
         help: "Put aside the new files that an earlier call has left, and begin anew",
+        kind: WordKind::Flag,
+    },
+    Word {
+        name: "accept",
+        value: "",
+        help: "The luminaire that answers at the address is the new one: it is accepted, and no address is given",
         kind: WordKind::Flag,
     },
     DRIVER,
@@ -596,7 +603,14 @@ fn task_of(
         "check" => Ok(Task::Check),
         "identify" => Ok(Task::Identify(one(alloc, line, "address")?)),
         "table" => Ok(Task::Table(form(line))),
-        "replace" => Ok(Task::Replace(replacement(alloc, line, files)?)),
+        "replace" => {
+            let wanted = replacement(alloc, line, files)?;
+            if line.has("accept") {
+                Ok(Task::Accept(wanted))
+            } else {
+                Ok(Task::Replace(wanted))
+            }
+        }
         "mend" => Ok(Task::Mend(mend(alloc, line, others)?)),
         "clear" => clear(alloc, line),
         _ => no_task(alloc),

@@ -645,3 +645,126 @@ fn an_old_luminaire_that_is_back_is_seen_early(rt: HostRuntime) {
     );
     assert!(rt; cabinet.is("site.db.new", &[(1, 5, 0x222222)]));
 }
+
+const ACCEPT: &[u8] = b"dali_commission replace 5 --accept --records site.db --only";
+
+const ACCEPT_TWO: &[u8] = b"dali_commission replace 5 --accept --records site.db --records two.db";
+
+const ACCEPTED: &str = "5 222222 the new luminaire has the address; 2 gear are in each table\n";
+
+/// What is heard if the luminaire that answers at 5 is accepted: it is asked before all else, too.
+fn all_accepted<R: Abort + AllocGlobal>(rt: &R) -> String {
+    let five = then_five(rt, then_five(rt, "").as_str());
+    then_five(rt, then_seven(rt, five.as_str()).as_str())
+}
+
+#[test]
+fn a_luminaire_that_answers_is_accepted_in_all_files(rt: HostRuntime) {
+    let there = all_accepted(&rt);
+    let cabinet = two(&rt);
+    ends(&rt, ACCEPT_TWO, &cabinet, there.as_str(), 0, ACCEPTED);
+    let new = [(1, 7, 0xABCDEF), (2, 7, 0xABCDEF), (2, 5, 0x222222)];
+    assert!(rt; cabinet.is("site.db", &new));
+    assert!(rt; cabinet.is("two.db", &OTHER_NEW));
+    assert!(rt; cabinet.is("site.db.before-1", &SITE) && cabinet.is("two.db.before-1", &OTHER));
+    assert!(rt; cabinet.count() == 4);
+    // An exchange that was stopped is brought to its end by it, too.
+    let there = all_there(&rt);
+    let cabinet = at(&rt, 4);
+    ends(&rt, ACCEPT_TWO, &cabinet, there.as_str(), 0, EXCHANGED);
+    assert!(rt; is_new(&cabinet));
+}
+
+/// If 7 is known to be gone, it is not asked for.
+#[test]
+fn a_luminaire_is_accepted_beside_one_that_is_gone(rt: HostRuntime) {
+    let five = then_five(&rt, then_five(&rt, "").as_str());
+    let there = then_five(&rt, silence(&rt, five.as_str(), 9).as_str());
+    let words = b"dali_commission replace 5 --accept --records site.db --only --missing 7";
+    ends(&rt, words, &one(&rt), there.as_str(), 0, ACCEPTED);
+    ends(
+        &rt,
+        ACCEPT,
+        &one(&rt),
+        there.as_str(),
+        11,
+        "not replaced, nothing was changed: short address 5: a luminaire of the tables is not there as recorded",
+    );
+}
+
+#[test]
+fn a_bus_on_which_not_one_luminaire_alone_answers_is_refused(rt: HostRuntime) {
+    let seven = then_seven(&rt, then_seven(&rt, then_seven(&rt, "").as_str()).as_str());
+    let old = repeated(&rt, "", "byte 12\nbyte 34\nbyte 56\n", 3);
+    let noise = repeated(&rt, "", "damaged\n", 9);
+    let silent = silence(&rt, "", 9);
+    for (words, answers, status, said) in [
+        (
+            ACCEPT,
+            old.as_str(),
+            11,
+            "a gear answers at it: the old luminaire is still there",
+        ),
+        (
+            ACCEPT,
+            silent.as_str(),
+            11,
+            "the new luminaire does not answer at it",
+        ),
+        (
+            ACCEPT,
+            noise.as_str(),
+            11,
+            "several luminaires answer at it, or the bus is disturbed",
+        ),
+        // The table has its number at 7.
+        (
+            ACCEPT,
+            seven.as_str(),
+            11,
+            "another luminaire than the new one answers at it",
+        ),
+        (
+            b"dali_commission replace 6 --accept --records site.db --only".as_slice(),
+            "",
+            11,
+            "short address 6: no table has this short address",
+        ),
+        (
+            b"dali_commission replace 5 --accept --records site.db".as_slice(),
+            "",
+            2,
+            "if none has, say --only",
+        ),
+        (ACCEPT, "lapsed\n", 4, "end of input"),
+    ] {
+        let cabinet = one(&rt);
+        ends(&rt, words, &cabinet, answers, status, said);
+        assert!(rt; cabinet.is("site.db", &SITE));
+        assert!(rt; cabinet.count() == 1);
+    }
+}
+
+/// What an earlier call left is gone on with, unless it is of another luminaire; that is put aside.
+#[test]
+fn an_acceptance_goes_on_or_begins_anew(rt: HostRuntime) {
+    let there = all_accepted(&rt);
+    let again = b"dali_commission replace 5 --accept --records site.db --only --again";
+    for (left, words, status, count) in [
+        ([(2, 7, 0xABCDEF), (2, 5, 0x222222)], ACCEPT, 0, 2),
+        ([(2, 7, 0xABCDEF), (2, 5, 0x333333)], ACCEPT, 11, 2),
+        ([(1, 5, 0x222222), (2, 7, 0xABCDEF)], ACCEPT, 11, 2),
+        ([(2, 7, 0xABCDEF), (2, 5, 0x333333)], again.as_slice(), 0, 3),
+    ] {
+        let cabinet = one(&rt);
+        assert!(rt; cabinet.has_put("site.db.new", &left));
+        let said = if status == 0 {
+            ACCEPTED
+        } else {
+            "a new file of another replacement lies there"
+        };
+        ends(&rt, words, &cabinet, there.as_str(), status, said);
+        assert!(rt; cabinet.count() == count);
+        assert!(rt; cabinet.is("site.db", &SITE) == (status != 0));
+    }
+}

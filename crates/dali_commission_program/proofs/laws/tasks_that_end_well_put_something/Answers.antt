@@ -3,7 +3,7 @@ use Rattle.dali_commissioning.specs.Drivers.{talk_of, has_heard, lines_of}
 use Rattle.dali_commission_said.specs.Tables.{only}
 use Rattle.dali_commission_stores.specs.Lent.{IsOpened}
 use Rattle.dali_commission_program.proofs.{Growing.more_is_not_nothing, Nothing.shown_more, Nothing.check_more}
-use Rattle.dali_commission_program.proofs.{Refused.refused_puts, Clearing.clear_more, Mended.run_lent_more, Mended.mend_more, Replaced.replaced}
+use Rattle.dali_commission_program.proofs.{Refused.refused_puts, Clearing.clear_more, Mended.run_lent_more, Mended.mend_more, Replaced.{replaced, accepted}}
 use Rattle.dali_commission_program.proofs.laws.tasks_that_end_well_put_something.Goals as goal
 
 pub returns-clause-identify : goal.returns-clause-identify
@@ -45,6 +45,12 @@ returns-clause-replace g c wanted records others was now x y (random, replaces) 
       g.F.Stores.opens g.R.Read.remaining g.W.Write.contents (g.S.Voice.told c.args._system.now) wanted records random was now x.driver
       y.driver replaces nothing,
 )
+
+pub returns-clause-accept : goal.returns-clause-accept
+returns-clause-accept g c wanted records others was now x y (random, accepts) =
+    more_is_not_nothing _ _
+    (accepted g.F.Open.Keep.kept g.F.Open.Keep.block g.F.Stores.made g.F.Stores.saw g.F.Stores.opens g.R.Read.remaining g.W.Write.contents
+    (g.S.Voice.told c.args._system.now) wanted records random was now x.driver y.driver accepts)
 
 pub returns-clause-refused : goal.returns-clause-refused
 returns-clause-refused g c = refused_puts
