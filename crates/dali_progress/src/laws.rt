@@ -1,19 +1,19 @@
 //! What is proved of a whole commissioning. Programs don't call these.
 //!
-//! Seven speak of commissioning that nothing disturbs: of a site on which a controller begins alone, with nothing on
+//! Eight speak of commissioning that nothing disturbs: of a site on which a controller begins alone, with nothing on
 //! the bus (`BeginsAlone`), in one of two ways: by Start, with nothing kept (`ByStart`); or by a survey, with any
 //! records (`BySurvey`). And of a list of events that rounds add to its log (`Rounds`): the controller acts on what is
 //! due, and its commits succeed; frames that are next are sent, and what the gear answer is heard. So no other
 //! controller acts meanwhile, no frame is destroyed, no answer is lost or damaged, the bus never lapses, and no gear's
 //! power comes or goes.
 //!
-//! Three of the seven speak, also or alone, of the runs of rounds that a replay makes of an installation with one
+//! Three of the eight speak, also or alone, of the runs of rounds that a replay makes of an installation with one
 //! controller (`RanAlone`): each is such a list of events. One law more speaks of rounds in which one gear is misheard.
 //!
 //! Three speak of what a survey promises of a machine on any bus (`IsCourse`), and one of used gear and the log of a
 //! site, whatever is disturbed.
 
-ghost use Rattle.std.specs.Prelude.{◌≡◌, ◌⊎◌, ℕ, ◌+◌, ◌*◌, ◌<◌, ◌≤◌, true, List, [], ◌∷◌, length, Some};
+ghost use Rattle.std.specs.Prelude.{◌≡◌, ◌⊎◌, ℕ, ◌+◌, ◌*◌, ◌<◌, ◌≤◌, Bool, true, List, [], ◌∷◌, length, Some};
 ghost use Rattle.std.specs.List.{AllByRecursion};
 ghost use Rattle.dali_frame.specs.declared.frames.Forward.{Forward};
 ghost use Rattle.dali_frame.specs.declared.numbers.SearchAddress.{SearchAddress};
@@ -49,6 +49,12 @@ ghost use Rattle.dali_progress.specs.Rounds.{GoesOn, HasEnded};
 ghost use Rattle.dali_progress.specs.Ends.{IsTrueEnd, table_at, NamesAll, CommitsNothing};
 ghost use Rattle.dali_progress.specs.Misheard.{RoundsBut, IsTrueEndBut};
 ghost use Rattle.dali_progress.specs.Replaced.{IsVacant, HasVacant, HasNew, IsReplacing, only, IsServed, AreNamed};
+ghost use Rattle.dali_events.specs.Allowed.{Allowed};
+ghost use Rattle.dali_events.specs.Laws.{TablesAgree};
+ghost use Rattle.dali_events.specs.declared.event.Event.TheVariants.{Up};
+ghost use Rattle.dali_world.specs.Site.{site_logged};
+ghost use Rattle.dali_progress.specs.InTurn.{IsStill, Turn, TakesTurn, TakeTurns, left_by, after_turns, turn_frames};
+ghost use Rattle.dali_progress.specs.InTurn.{HasFoundAll, AreSettled, HaveVacant, AllAreNamed};
 ghost use Rattle.dali_progress.specs.Running.{RanAlone, HasBegun, begun, SparesUsedOf, HasRoom, HasEndedBy, WasRefused};
 ghost use Rattle.dali_progress.specs.Surveyed.{Step, IsCourse, ArePlain, WasHeard, IsAccounted, HasSurveyed};
 ghost use Rattle.dali_progress.specs.Surveyed.{stage_told};
@@ -240,6 +246,35 @@ pub fn a_replaced_gear_gets_the_address()
         → HasBegun true (installation_of p) between → Ran limit between sent text m
         → (e : End) × HasEnded m.site 0 e × IsServed (installation_of p).site m.site 0 g e
         × HoldsShort (world m.site) g a }
+{}
+
+/// CONTROLLERS SURVEY ONE AFTER THE OTHER. From any history after which nothing waits (`IsStill`), with whatever
+/// records, a controller that comes up begins alone (`comes`). So the laws of one survey alone hold of it. Let
+/// controllers survey in turn, each alone and undisturbed to its end (`TakeTurns`); then nothing waits again (`still`).
+///
+/// With n gear that have power and no short address they send at most 106 n + 258 frames each (`frames`). Gear keep
+/// their addresses (`keeps`). Once one ended with all-found, every gear with power has a short address (`found`). So
+/// it is after the last turn, if as many addresses of their blocks are vacant together as gear have power and no short
+/// address, and each begins with settled records (`enough`).
+///
+/// The table of the controller that ended last names each gear with power that has a short address and a number that
+/// gear draw (`named`). No two tables name one gear under two addresses, or two gear under one (`agree`).
+pub fn controllers_survey_in_turn()
+    ensures comes { (s : SiteState) (c : ℕ) (kept : Bool) → IsStill s → Allowed (world s) (Up c kept)
+        → BeginsAlone BySurvey (site_logged s (Up c kept)) c }
+    ensures still { (s : SiteState) (ts : List Turn) → IsStill s → TakeTurns s ts → IsStill (after_turns s ts) }
+    ensures frames { (s : SiteState) (ts : List Turn) → IsStill s → TakeTurns s ts
+        → turn_frames ts ≤ length ts * most_frames BySurvey (bare s) }
+    ensures keeps { (s : SiteState) (ts : List Turn) → IsStill s → TakeTurns s ts
+        → KeepsAddresses (world s) (world (after_turns s ts)) }
+    ensures found { (s : SiteState) (ts : List Turn) → IsStill s → TakeTurns s ts → HasFoundAll ts
+        → OfPowered (world (after_turns s ts)).gear HasShort }
+    ensures enough { (s : SiteState) (ts : List Turn) → IsStill s → TakeTurns s ts → AreSettled s ts
+        → HaveVacant s ts → OfPowered (world (after_turns s ts)).gear HasShort }
+    ensures named { (s : SiteState) (t : Turn) → IsStill s → TakesTurn s t
+        → AllAreNamed (table_at (left_by s t) t.controller) (world (left_by s t)).gear }
+    ensures agree { (s : SiteState) (ts : List Turn) → IsStill s → TakeTurns s ts
+        → TablesAgree (world (after_turns s ts)) }
 {}
 
 /// A CENSUS IS BOUNDED. Of every list of inputs that are due, from a survey on, whatever bus, store and other
