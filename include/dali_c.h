@@ -25,7 +25,7 @@ extern "C" {
 #define DALI_VERSION "0.3.0"
 /* The version of the structs and calls: it counts up with each change of one of them. Compare it with dali_c_version()
  * once, before the first call. */
-#define DALI_C_VERSION 105
+#define DALI_C_VERSION 106
 
 /* How many short addresses there are, and the most records of a kind. */
 #define DALI_ADDRESSES 64
@@ -284,7 +284,7 @@ struct dali_ascent {
 /* Of a machine: what a survey has counted, and whose visits failed. */
 struct dali_tally {
     uint8_t draws;
-    uint8_t is_silent;
+    uint8_t rolls;
     uint8_t calls;
     uint8_t askings;
     uint8_t is_missed;
