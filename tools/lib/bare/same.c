@@ -14,6 +14,8 @@
 
 /* More than a life takes that is not killed. */
 #define MOST_STEPS UINT32_C(40000)
+/* And that one takes that is ended early. */
+#define MOST_STOPPING UINT32_C(4000)
 #define MOST_LIVES 6
 #define MOST_CONTROLLERS 2
 /* Each of so many steps is followed by the calls that only read, and by some on structs with a changed byte. */
@@ -35,6 +37,7 @@ static union {
         struct dali_heard heard;
         struct dali_levels levels;
         struct dali_passes passes;
+        struct dali_progress progress;
         uint8_t due, next;
     } is;
     uint32_t words[900];
@@ -43,7 +46,7 @@ static union {
 static struct bus bus;
 static uint64_t chance;
 static uint32_t sum = UINT32_C(0x811C9DC5);
-static uint32_t calls, frames, lives, commits[DALI_RELEASE + 1];
+static uint32_t calls, frames, lives, stopped, commits[DALI_RELEASE + 1];
 /* Of each status, purpose of a transaction, end, fault and thing to be done next whether it came: a bit each. */
 static uint32_t statuses, purposes, ends, faults, nexts;
 
@@ -177,13 +180,17 @@ static void read_beside(void)
     must(called(dali_machine_last(&all.is.beside, &all.is.other)) == status, "the last order is read otherwise");
     must(called(dali_machine_records(&all.is.beside, &all.is.read)) == status, "records are read otherwise");
     must(called(dali_machine_table(&all.is.beside, &all.is.table)) == status, "a table is read otherwise");
+    must(called(dali_machine_progress(&all.is.beside, &all.is.progress)) == status, "progress is read otherwise");
 }
 
 static void step_beside(void)
 {
     uint8_t input = (uint8_t)chance_below(&chance, DALI_SURVEY + 3);
 
-    called(dali_machine_step(&all.is.beside, input, some_byte(), &all.is.other));
+    if (chance_below(&chance, 2))
+        called(dali_machine_step(&all.is.beside, input, some_byte(), &all.is.other));
+    else
+        called(dali_machine_stop(&all.is.beside, input, some_byte(), &all.is.other));
 }
 
 static void try_beside(void)
@@ -229,8 +236,23 @@ static struct told follow(struct dali_records *kept, uint32_t failing)
     return (struct told){DALI_COMMITTED, 0};
 }
 
-/* One life of a controller, which is killed after so many steps. 1 where it has ended before. Of so many records one is
- * not kept, or none fails. */
+/* A run is ended early. */
+static void stop(struct dali_records *kept, struct told told)
+{
+    uint32_t count = 0;
+
+    for (uint8_t kind = DALI_NOTHING_ORDERED; kind != DALI_DONE && kind != DALI_HALT; count++) {
+        must(called(dali_machine_stop(&all.is.machine, told.input, told.byte, &all.is.order)) == DALI_OK, "a stop is refused");
+        must(count < MOST_STOPPING, "a stop does not end");
+        kind = all.is.order.kind;
+        if (kind == DALI_PUT || kind == DALI_COMMIT)
+            told = follow(kept, 0);
+    }
+    stopped++;
+}
+
+/* One life of a controller, which is killed after so many steps, or ended early. 1 where it has ended before. Of so many
+ * records one is not kept, or none fails. */
 static int live(struct dali_records *kept, uint8_t start, uint32_t steps, uint32_t failing)
 {
     struct told told = {start, 0};
@@ -247,6 +269,8 @@ static int live(struct dali_records *kept, uint8_t start, uint32_t steps, uint32
             told = follow(kept, failing);
         mix(told.input << 8 | told.byte);
     }
+    if (kind != DALI_DONE && kind != DALI_HALT && chance_below(&chance, 2))
+        stop(kept, told);
     ends |= kind == DALI_DONE ? UINT32_C(1) << all.is.order.reason : 0;
     faults |= kind == DALI_HALT ? UINT32_C(1) << all.is.order.reason : 0;
     return kind == DALI_DONE || kind == DALI_HALT;
@@ -404,6 +428,7 @@ int main(void)
     tell("calls", calls);
     tell("frames", frames);
     tell("lives", lives);
+    tell("stopped", stopped);
     tell("reservations", commits[DALI_RESERVE]);
     tell("enrolments", commits[DALI_ENROL]);
     tell("releases", commits[DALI_RELEASE]);
