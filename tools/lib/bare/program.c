@@ -798,7 +798,7 @@ int main(void)
 {
     start_counting();
     check_counting();
-    for (uint32_t *word = stacks[0]; word < stacks[CALLS]; word++)
+    for (uint32_t *word = stacks[0]; word < stacks[0] + CALLS * STACK_WORDS; word++)
         *word = PAINT;
     measure_pins();
     measure_ports();

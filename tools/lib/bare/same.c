@@ -39,16 +39,18 @@ static union {
         struct dali_passes passes;
         struct dali_progress progress;
         uint8_t due, next;
+        struct dali_event event;
     } is;
     uint32_t words[900];
 } all;
 
+static struct dali_port port;
 static struct bus bus;
 static uint64_t chance;
 static uint32_t sum = UINT32_C(0x811C9DC5);
 static uint32_t calls, frames, lives, stopped, commits[DALI_RELEASE + 1];
-/* Of each status, purpose of a transaction, end, fault and thing to be done next whether it came: a bit each. */
-static uint32_t statuses, purposes, ends, faults, nexts;
+/* Of each status, purpose of a transaction, end, fault, thing to be done next and word of a port whether it came: a bit each. */
+static uint32_t statuses, purposes, ends, faults, nexts, words_told;
 
 static void mix(uint32_t word)
 {
@@ -396,6 +398,79 @@ static void try_passes(void)
     }
 }
 
+/* A port may have gaps, so what is compared is what its calls answer, and tell. */
+static void port_called(uint8_t status)
+{
+    calls++;
+    mix(status);
+    mix(all.is.event.at);
+    mix((uint32_t)all.is.event.is_low << 24 | (uint32_t)all.is.event.next << 16 | (uint32_t)all.is.event.input << 8 | all.is.event.byte);
+    mix(all.is.event.read.kind);
+    for (int at = 0; at < 3; at++)
+        mix(all.is.event.read.bytes[at]);
+    for (int at = 0; at < 4; at++)
+        mix(all.is.event.read.lasted[at]);
+    words_told |= UINT32_C(1) << (all.is.event.input & 31);
+}
+
+static void send_by_port(uint32_t now)
+{
+    struct dali_order order = {DALI_PUT, DALI_FIRST_PRIORITY, some_byte(), some_byte(), some_byte() & 1, DALI_WHOLE, {0, {0, {0, 0, 0}}}, 0};
+
+    if (chance_below(&chance, 8) == 0)
+        change_byte(&order, sizeof order);
+    port_called(dali_port_send(&port, &order, chance_below(&chance, 1300), now, &all.is.event));
+}
+
+/* The edges of a backward frame that begins at this time, often with wrong bit times, and when it is over. */
+static uint32_t answer_port(uint32_t from)
+{
+    uint32_t number = UINT32_C(0x100) | some_byte(), micros = chance_below(&chance, 4) ? 417 : 560;
+    uint8_t was_low = 0;
+
+    for (uint32_t half = 0; half <= 18; half++) {
+        uint8_t is_low = half < 18 && (number >> (8 - half / 2) & 1) != half % 2;
+
+        if (is_low != was_low)
+            port_called(dali_port_edge(&port, is_low, from + micros * half, &all.is.event));
+        was_low = is_low;
+    }
+    return from + micros * 18;
+}
+
+/* A port on a bus that follows it 15 us later, with edges of others, edges that are lost, and frames to send. */
+static void try_port(void)
+{
+    uint32_t now = (uint32_t)chance_next(&chance);
+
+    memset(&all.is.event, 0, sizeof all.is.event);
+    port_called(dali_port_new(&port, (uint8_t)chance_below(&chance, 2), now, &all.is.event));
+    for (int times = 0; times < 400; times++) {
+        uint8_t was_low = all.is.event.is_low;
+        uint32_t what = chance_below(&chance, 64), rest = all.is.event.at - now;
+
+        if (rest > 9000 && rest < 20000 && chance_below(&chance, 3) == 0) {
+            now = answer_port(now + 5000);
+            continue;
+        }
+        now = what < 56 ? all.is.event.at : now + chance_below(&chance, 1000);
+        if (what < 56)
+            port_called(dali_port_timer(&port, now, &all.is.event));
+        else if (what < 58)
+            port_called(dali_port_edge(&port, (uint8_t)chance_below(&chance, 2), now, &all.is.event));
+        else if (what < 63)
+            send_by_port(now);
+        else
+            port_called(dali_port_lost(&port, (uint8_t)chance_below(&chance, 3), now, &all.is.event));
+        if (all.is.event.is_low != was_low) {
+            now += 15;
+            port_called(dali_port_edge(&port, all.is.event.is_low, now, &all.is.event));
+        }
+        if (chance_below(&chance, 200) == 0)
+            change_byte(&port, sizeof port);
+    }
+}
+
 static void try_levels(void)
 {
     struct levels_seen seen;
@@ -407,6 +482,8 @@ static void try_levels(void)
     for (uint32_t times = 0; times < LEVELS; times++) {
         try_pins();
         try_passes();
+        if (times % 20 == 0)
+            try_port();
     }
     tell("pins", sum);
 }
@@ -437,6 +514,7 @@ int main(void)
     tell("ends", ends);
     tell("faults", faults);
     tell("nexts", nexts);
+    tell("words", words_told);
 #ifdef REACHED
     {
         extern const uint8_t reached[REACHED];
