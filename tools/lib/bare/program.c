@@ -140,6 +140,13 @@ static int ready_table(struct course *it, struct arguments *arguments)
     return 1;
 }
 
+/* Once a run has ended, nothing is left to stop. */
+static int ready_stop(struct course *it, struct arguments *arguments)
+{
+    ready_go(it, arguments);
+    return it->order.kind == DALI_PUT || it->order.kind == DALI_COMMIT;
+}
+
 static int ready_progress(struct course *it, struct arguments *arguments)
 {
     *arguments = (struct arguments){{AT(it->machine), AT(it->progress)}};
@@ -263,7 +270,7 @@ static struct call calls[] = {
     CALL(dali_machine_records, ready_records),
     CALL(dali_machine_table, ready_table),
     CALL(dali_machine_progress, ready_progress),
-    CALL(dali_machine_stop, ready_go),
+    CALL(dali_machine_stop, ready_stop),
     CALL(dali_machine_new, ready_machine_new),
     CALL(dali_records_add, ready_records_add),
     CALL(dali_records_new, ready_records_new),
@@ -798,7 +805,7 @@ int main(void)
 {
     start_counting();
     check_counting();
-    for (uint32_t *word = stacks[0]; word < stacks[CALLS]; word++)
+    for (uint32_t *word = stacks[0]; word < stacks[0] + CALLS * STACK_WORDS; word++)
         *word = PAINT;
     measure_pins();
     measure_ports();
