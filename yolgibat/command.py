@@ -2,6 +2,7 @@
 
 COMMAND of --driver is split into words as a shell does it; a relative path in it is looked for in the current folder, and then where the
 launchers are. With --story and --trace FILE is made anew if it is empty, a story or a trace, and none of the files that the call works with.
+What is said over a driver is in the language of --lang, or else of the terminal, as far as it has a translation.
 
 Exit statuses: those of the program, and of what is done in its place; 2 for a bad word; 5 where a file of the records, or beside them, cannot
 be had; 127 if a driver cannot be started; 126, 127 and 130 if the program is not there; 130 if it is interrupted.
@@ -19,14 +20,20 @@ import typing
 
 from yolgibat import ROOT, programs, standard
 
+if typing.TYPE_CHECKING:
+    from yolgibat import following
+
 HELP = ROOT / "yolgibat/help"
 BAD_WORD, NO_RECORDS, NOT_STARTED = 2, 5, 127
 COMMISSION, SIMULATE, VIEW = "dali_commission", "dali_sim", "dali_view"
 # The options of a driver, and of files in which is told what was on the bus; each with a value. Other options that have a value which is no word
 # of the launcher, and those that say that places or serial numbers are meant.
-DRIVER, FILES, VALUES, BESIDE = ("--driver", "--driver-timeout"), ("--story", "--trace"), ("--records",), ("--names", "--all", "--serials")
+DRIVER, FILES, EXPECT, LANGUAGE = ("--driver", "--driver-timeout"), ("--story", "--trace"), "--expect", "--lang"
+VALUES, BESIDE = ("--records",), ("--names", "--all", "--serials")
 # The tasks of `dali_commission` that talk to a driver. The commands of each launcher that have a help, and its own; what `--build` builds.
 OVER_DRIVER = ("run", "check", "identify", "replace", "mend", "clear")
+# Those of which it is shown how far they are, and those that go on if they are called again.
+FAR, GOES_ON = ("run", "check", "replace", "mend", "clear"), ("run", "replace", "mend", "clear")
 COMMANDS = {COMMISSION: (*OVER_DRIVER, "table", "page", "building"), SIMULATE: ("replay", "threads", "audit", "view", "trace"), VIEW: ()}
 TEXTS = {COMMISSION: ("dali_commission-launcher",), SIMULATE: ("dali_sim", "dali_sim-launcher"), VIEW: ("dali_view",)}
 BUILDS = {COMMISSION: (COMMISSION,), SIMULATE: ("dali_play", SIMULATE), VIEW: ()}
@@ -115,6 +122,13 @@ def address_of(word: str) -> int:
     return int(word)
 
 
+def expected_of(given: list[str]) -> int | None:
+    """How many luminaires there are, or None if that is not said."""
+    if given and (len(given) != 1 or not re.fullmatch(r"[0-9]{1,2}", given[0]) or int(given[0]) not in range(1, 65)):
+        raise BadWord(f"{EXPECT} {' '.join(given)}: one number from 1 to 64 is wanted")
+    return int(given[0]) if given else None
+
+
 def path_of(name: str, given: list[str]) -> str | None:
     """The path that is given to an option, or None if none is."""
     if given and (len(given) != 1 or not given[0]):
@@ -153,6 +167,7 @@ def of_page(words: list[str]) -> argparse.Namespace:
     options.add_argument("--others", action="append", type=block_of, default=[])
     options.add_argument("--port", type=port_of, default=0)
     options.add_argument("--open", action="store_true")
+    options.add_argument(EXPECT, action="append")
     options.add_argument("--program")
     options.add_argument("block", nargs="?", type=block_of, default="0-63")
     return over_driver(options, words)
@@ -279,11 +294,11 @@ def call_of(words: list[str]) -> Call:
     """What these words ask for. A value is none of them, also of an option of the program that is a file of records."""
     task, at, is_driven, beside, left = "", None, False, "", iter(enumerate(words))
     for number, word in left:
-        is_own = word.partition("=")[0] in (*DRIVER, *FILES)
+        is_own = word.partition("=")[0] in (*DRIVER, *FILES, EXPECT)
         if not is_own and word not in BESIDE and at is None:
             task, at = word, number
         is_driven, beside = is_driven or is_own, word if word in BESIDE else beside
-        if word in (*DRIVER, *FILES, *VALUES):
+        if word in (*DRIVER, *FILES, EXPECT, *VALUES):
             next(left, None)
     return Call(task, [it for number, it in enumerate(words) if number != at], is_driven, beside)
 
@@ -305,7 +320,7 @@ def commission(words: list[str]) -> int:
             return BAD_WORD
         words = [*words, "--yes"]
     if call.is_driven:
-        return drive(words, call.task == "identify")
+        return drive(words, call.task)
     become(programs.LAUNCH, COMMISSION, *words)
 
 
@@ -333,26 +348,42 @@ def in_place(task: str, words: list[str]) -> int:
     return terminal.main(of_places(words))
 
 
-def drive(words: list[str], is_gentle: bool) -> int:
+def drive(words: list[str], task: str) -> int:
     """Runs the program joined to its driver. Whoever shows a luminaire is to leave it bright, so that is ended gently."""
     standard.fill()
     from yolgibat import joining
 
-    rest, given = parted(words, *DRIVER, *FILES)
+    rest, given = parted(words, *DRIVER, *FILES, EXPECT)
     if wrong := programs.fault(COMMISSION, rest):
         standard.say(wrong[0])
         return wrong[1]
-    driver, seconds = command_of(given["--driver"]), seconds_of(given["--driver-timeout"])
+    driver, seconds, expected = command_of(given["--driver"]), seconds_of(given["--driver-timeout"]), expected_of(given[EXPECT])
+    if expected and task != "run":
+        raise BadWord("--expect is of `run` and `page`")
     with files_of(given, rest, driver) as files:
         if not programs.can_start(COMMISSION, driver):
             return NOT_STARTED
         program, status = programs.ready(COMMISSION)
         if status:
             return status
-        status = joining.join([str(program), *rest], driver, seconds, is_gentle, files)
+        view = view_of(task, rest, expected)
+        status = joining.join([str(program), *rest], driver, seconds, task == "identify", files, view=view)
     if status - 128 in joining.PASSED:
-        standard.say(f"{COMMISSION}: interrupted")
+        standard.say(f"{COMMISSION}: interrupted" + (": what was kept is kept, and the same line goes on" if task in GOES_ON else ""))
     return status
+
+
+def view_of(task: str, words: list[str], expected: int | None) -> "following.View | None":
+    """What shows how far a command is, or says in another language what it says, or whether all luminaires are there. None if none is wanted."""
+    is_far = task in FAR and "--quiet" not in words and os.isatty(2)
+    if not is_far and standard.spoken == standard.ENGLISH and not expected:
+        return None
+    from yolgibat import following
+
+    block = re.fullmatch(r"([0-9]{1,2})-([0-9]{1,2})", words[-1])
+    view = following.View(task, int(block[2]) + 1 - int(block[1]) if block else 0, expected)
+    view.below.is_able &= is_far
+    return view
 
 
 @contextlib.contextmanager
@@ -430,8 +461,24 @@ def of_audit(words: list[str]) -> tuple[str, dict[str, str], list[str]]:
 LAUNCHERS = {COMMISSION: commission, SIMULATE: simulate, VIEW: view}
 
 
+def spoken_of(given: list[str]) -> str:
+    """The language that is asked for, or that of the terminal. English, which most ask for, is not looked for in the list."""
+    word = next((os.environ[it] for it in ("LC_ALL", "LC_MESSAGES", "LANG") if os.environ.get(it)), "")
+    language = " ".join(given) if given else re.split("[_.@]", word)[0]
+    if language in ("", "C", "POSIX", standard.ENGLISH) and not given:
+        return standard.ENGLISH
+    from yolgibat import texts
+
+    if given and language not in texts.languages():
+        raise BadWord(f"{LANGUAGE} {language}: one of {', '.join(texts.languages())} is wanted")
+    return language if language in texts.languages() else standard.ENGLISH
+
+
 def main(launcher: str, *words: str) -> int:
     try:
+        if launcher == COMMISSION:
+            words, given = parted(list(words), LANGUAGE)
+            standard.spoken = spoken_of(given[LANGUAGE])
         answer(launcher, list(words))
         return LAUNCHERS[launcher](list(words)) if words or launcher == VIEW else refuse(launcher)
     except BadWord as wrong:

@@ -117,7 +117,7 @@ def main(chosen: argparse.Namespace, opened: typing.TextIO | None = None) -> int
         return NO_RECORDS
     if not opened:
         return 0
-    site = commanding.Site(program, chosen.records, chosen.others, chosen.block, chosen.driver, chosen.seconds, chosen.title)
+    site = commanding.Site(program, chosen.records, chosen.others, chosen.block, chosen.driver, chosen.seconds, chosen.title, command.expected_of(chosen.expect))
     bus = commanding.Bus(site, (opened.fileno(),))
     bus.read_table()
     try:

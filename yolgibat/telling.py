@@ -8,7 +8,7 @@ import typing
 from yolgibat import ROOT
 
 if typing.TYPE_CHECKING:
-    from yolgibat import dump
+    from yolgibat import dump, following
 
 # A line of a program for its driver, and the driver's line without its line feed.
 PUT = re.compile(rb"put ([1-5]) ([0-9A-F]{4}) .*\n")
@@ -68,11 +68,14 @@ class Run:
     """What a driver tells of a run of one controller, as a story that is written to a file, and as a dump to another one, event by event.
 
     story, trace  the files, each None if none is wanted
+    view          what shows how far the run is, if anything does
     faults        what was wrong with a file, by its name: nothing more was written to it then
     """
 
-    def __init__(self, story: typing.BinaryIO | None = None, trace: typing.BinaryIO | None = None) -> None:
-        self.story, self.trace, self.faults = story, trace, {}
+    def __init__(
+        self, story: typing.BinaryIO | None = None, trace: typing.BinaryIO | None = None, view: "following.View | None" = None
+    ) -> None:
+        self.story, self.trace, self.view, self.faults = story, trace, view, {}
         self.dump, self.begun, self.waiting = dumped() if trace else None, time.monotonic(), None
         # How many events, transactions and frames there were, how many frames the running transaction has, and the bit times of all.
         self.events, self.transactions, self.frames, self.place, self.bits = 0, 0, 0, 0, 0
@@ -94,6 +97,8 @@ class Run:
                 self.dump.asked[0] = priority
                 self.dump.take(event)
             self.write_trace()
+            if self.view:
+                self.view.take(event)
 
     def event(self, priority: int, frame: int, at: int, answer: str) -> dict[str, typing.Any]:
         """The event that an answer tells of."""
