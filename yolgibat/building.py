@@ -146,7 +146,8 @@ def parsed(file: pathlib.Path) -> tuple[str, dict[str, typing.Any]]:
     except ModuleNotFoundError:
         raise Wrong("`building` wants Python 3.11 or later, to read its file") from None
     try:
-        text = file.read_text(encoding="utf-8")
+        raw = file.read_bytes()
+        text = raw.decode("utf-8-sig")
         for number, line in enumerate(text.splitlines(), 1):
             if '"""' in line or "'''" in line:
                 raise Wrong(f"{file}: line {number}: a text stands on one line")
@@ -155,8 +156,10 @@ def parsed(file: pathlib.Path) -> tuple[str, dict[str, typing.Any]]:
         at = AT.search(str(why))
         line = at[1] if at and at[1] else len(text.splitlines())
         raise Wrong(f"{file}: line {line}: {AT.sub('', str(why))}") from why
-    except (OSError, UnicodeDecodeError) as why:
-        raise Wrong(f"{file}: {getattr(why, 'strerror', None) or why}") from why
+    except UnicodeDecodeError as why:
+        raise Wrong(f"{file}: line {raw[: why.start].count(10) + 1}: this is no UTF-8: save the file in this encoding") from why
+    except OSError as why:
+        raise Wrong(f"{file}: {why.strerror}") from why
 
 
 def records_of(table: Table, block: str) -> list[tuple[str, str]]:
@@ -247,7 +250,7 @@ def alone(records: str) -> collections.abc.Iterator[int]:
     try:
         number = os.open(f"{records}.page", os.O_RDWR | os.O_CREAT, 0o600)
     except OSError as why:
-        raise Taken(f"error: {records}.page: {why.strerror}") from why
+        raise Taken(f"error: {os.path.abspath(records)}.page: {why.strerror}") from why
     try:
         fcntl.flock(number, fcntl.LOCK_EX | fcntl.LOCK_NB)
         yield number
@@ -506,7 +509,7 @@ def written(
 ) -> str:
     """What is written on standard output."""
     if chosen.csv:
-        return places.as_csv(table_of(jobs), "bus")
+        return places.as_csv(table_of(jobs), "bus", is_german=chosen.csv == command.GERMAN)
     if chosen.json:
         kinds = {"table": {"table": table_of(jobs)}, "check": {"changes": changes}}
         them = [{"bus": it.entry.name, "status": it.status(), "said": it.said, "reports": it.reports} for it in jobs]
@@ -545,7 +548,10 @@ def serve(chosen: argparse.Namespace, building: Building, program: str) -> int:
 
 def main(chosen: argparse.Namespace) -> int:
     if not chosen.building.is_file():
-        raise command.BadWord(f"--building {chosen.building}: there is no such file")
+        what = "this is a folder, and a file is wanted" if chosen.building.is_dir() else "there is no such file"
+        raise command.BadWord(f"--building {chosen.building}: {what}")
+    # A link stands for the file where that lies.
+    chosen.building = chosen.building.resolve()
     os.chdir(chosen.building.parent)
     building = read(pathlib.Path(chosen.building.name))
     entries = building.chosen(chosen.bus)

@@ -8,7 +8,7 @@ import re
 import typing
 import zlib
 
-from yolgibat import ROOT, building, commanding, places, serving, texts
+from yolgibat import ROOT, building, command, commanding, places, serving, texts
 
 PAGE = ROOT / "yolgibat/building.html"
 # The page of a bus below that of its building: its number, and what is asked for there.
@@ -165,7 +165,7 @@ class Handler(serving.Handler):
     def tell_whole_csv(self) -> None:
         them = [{"bus": bus.name, **it} for bus in self.server.buses for it in places.rows(bus.table, places.read(bus.names))]
         more = ("Content-Disposition", 'attachment; filename="luminaires.csv"')
-        self.write(200, "text/csv", places.as_csv(them, "bus"), more)
+        self.write(200, "text/csv", places.as_csv(them, "bus", is_german=self.language() == command.GERMAN), more)
 
     def do_all(self) -> None:
         """Begins a command on many buses. One on which something goes on is left as it is."""

@@ -29,7 +29,9 @@ COMMISSION, SIMULATE, VIEW = "dali_commission", "dali_sim", "dali_view"
 # The options of a driver, and of files in which is told what was on the bus; each with a value. Other options that have a value which is no word
 # of the launcher, and those that say that places or serial numbers are meant.
 DRIVER, FILES, EXPECT, LANGUAGE = ("--driver", "--driver-timeout"), ("--story", "--trace"), "--expect", "--lang"
-VALUES, BESIDE = ("--records",), ("--names", "--all", "--serials")
+# A table with the places for a German spreadsheet; and the language in which a page writes one.
+CSV, GERMAN = "--csv=de", "de"
+VALUES, BESIDE = ("--records",), ("--names", "--all", "--serials", CSV)
 # The tasks of `dali_commission` that talk to a driver. The commands of each launcher that have a help, and its own; what `--build` builds.
 OVER_DRIVER = ("run", "check", "identify", "replace", "mend", "clear")
 # Those of which it is shown how far they are, and those that go on if they are called again.
@@ -38,7 +40,7 @@ COMMANDS = {COMMISSION: (*OVER_DRIVER, "table", "page", "building"), SIMULATE: (
 TEXTS = {COMMISSION: ("dali_commission-launcher",), SIMULATE: ("dali_sim", "dali_sim-launcher"), VIEW: ("dali_view",)}
 BUILDS = {COMMISSION: (COMMISSION,), SIMULATE: ("dali_play", SIMULATE), VIEW: ()}
 # What is done in the program's place: the tasks, each with the option that says so.
-IN_PLACE = (("table", "--names"), ("identify", "--all"), ("check", "--serials"))
+IN_PLACE = (("table", "--names"), ("table", CSV), ("identify", "--all"), ("check", "--serials"))
 # The commands of `dali_sim` that draw: what, and what it is called in a usage.
 DRAWS = {"view": ("page", "PAGE"), "trace": ("trace", "DUMP")}
 OF_BUILDING = ("run", "check", "mend", "clear", "table", "replace", "page")
@@ -191,8 +193,9 @@ def of_places(words: list[str]) -> argparse.Namespace:
     form = options.add_mutually_exclusive_group()
     for name in ("csv", "json", "names", "all"):
         (form if name in ("csv", "json") else options).add_argument(f"--{name}", action="store_true")
-    rest, given = parted(words, *DRIVER)
-    chosen = options.parse_args(rest)
+    rest, given = parted([it for it in words if it != CSV], *DRIVER)
+    chosen = options.parse_args([*rest, *(["--names", "--csv"] if CSV in words else [])])
+    chosen.csv = GERMAN if CSV in words else chosen.csv
     if not (chosen.names if chosen.task == "table" else chosen.all) or chosen.names and chosen.all:
         raise BadWord("it is either table --names or identify --all")
     if chosen.task == "identify":
@@ -227,7 +230,8 @@ def of_building(words: list[str]) -> argparse.Namespace:
     for name in ("json", "csv", "open", "yes"):
         options.add_argument(f"--{name}", action="store_true")
     options.add_argument("bus", nargs="*")
-    chosen = options.parse_intermixed_args(words)
+    chosen = options.parse_intermixed_args(["--csv" if it == CSV else it for it in words])
+    chosen.csv = GERMAN if CSV in words else chosen.csv
     for wrong, text in (
         (chosen.csv and (chosen.json or chosen.task != "table"), "--csv is a form of `table`, beside no other"),
         (chosen.since and chosen.task != "check", "--since is of `check`"),
@@ -418,7 +422,9 @@ def simulate(words: list[str]) -> int:
 
 def view(words: list[str]) -> int:
     """Draws the run of a script as a page, or a story."""
-    return draw("page", words) if not words or is_story(words) else refuse(VIEW)
+    if words and not is_story(words):
+        raise BadWord(f"'{words[0]}' is none of its words: ./dali_view < SCRIPT > PAGE, or ./dali_view --story FILE > PAGE")
+    return draw("page", words)
 
 
 def is_story(words: list[str]) -> bool:

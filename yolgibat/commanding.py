@@ -614,11 +614,11 @@ class Bus:
         """The serial numbers that were read, by random address."""
         return serials.read(serials.file_of(self.site.records[0]))
 
-    def csv(self) -> str:
+    def csv(self, is_german: bool = False) -> str:
         """The table with the places, as comma-separated values."""
         with self.lock:
             self.read_table()
-            return places.as_csv(places.rows(self.table, places.read(self.names), self.numbers()))
+            return places.as_csv(places.rows(self.table, places.read(self.names), self.numbers()), is_german=is_german)
 
 
 def odd_of(report: dict[str, typing.Any]) -> dict[int, tuple[str, str | None]]:

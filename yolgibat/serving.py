@@ -19,7 +19,7 @@ import typing
 import urllib.request
 import webbrowser
 
-from yolgibat import ROOT, commanding, joining, places, standard, story, texts, viewer, walking
+from yolgibat import ROOT, command, commanding, joining, places, standard, story, texts, viewer, walking
 
 LOOPBACK = "127.0.0.1"
 PAGE = ROOT / "yolgibat/page.html"
@@ -331,7 +331,7 @@ class Handler(http.server.BaseHTTPRequestHandler):
         self.write(200, "application/x-ndjson", came[1])
 
     def tell_csv(self) -> None:
-        self.write(200, "text/csv", self.bus.csv(), ("Content-Disposition", 'attachment; filename="luminaires.csv"'))
+        self.write(200, "text/csv", self.bus.csv(self.language() == command.GERMAN), ("Content-Disposition", 'attachment; filename="luminaires.csv"'))
 
     def do(self) -> None:
         asked = self.body()

@@ -21,7 +21,7 @@ import pathlib
 import select
 import subprocess
 
-from yolgibat import joining, places, programs, serials, standard, texts
+from yolgibat import command, joining, places, programs, serials, standard, texts
 
 NOBODY = 10
 
@@ -46,7 +46,8 @@ class Walk:
         while self.left:
             it = self.left[0]
             text = f" [{it['place']}]" if it["place"] else ""
-            asked = {"address": it["address"], "random": it["random"], "left": len(self.left)}
+            left = sum(not one["place"] for one in self.left)
+            asked = {"address": it["address"], "random": it["random"], "left": left}
             standard.write(texts.text("walk:asks", standard.spoken, **asked) + f"{text} ")
             line, status = self.line_beside(it["address"])
             if status or line in (None, "/end"):
@@ -146,5 +147,6 @@ def main(chosen: argparse.Namespace) -> int:
     rows = places.rows(table, places.read(file), serials.read(serials.file_of(chosen.records)))
     if chosen.task == "identify":
         return walks(program, chosen, rows, file)
-    form = places.as_csv if chosen.csv else places.as_json if chosen.json else places.as_text
-    return standard.ended(form(rows), 0)
+    if chosen.csv:
+        return standard.ended(places.as_csv(rows, is_german=chosen.csv == command.GERMAN), 0)
+    return standard.ended((places.as_json if chosen.json else places.as_text)(rows), 0)
