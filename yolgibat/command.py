@@ -370,17 +370,18 @@ def drive(words: list[str], task: str) -> int:
         program, status = programs.ready(COMMISSION)
         if status:
             return status
-        view = view_of(task, rest, expected)
+        view = view_of(task, rest, expected, "story" in files)
         status = joining.join([str(program), *rest], driver, seconds, task == "identify", files, view=view)
     if status - 128 in joining.PASSED:
         standard.say(f"{COMMISSION}: interrupted" + (": what was kept is kept, and the same line goes on" if task in GOES_ON else ""))
     return status
 
 
-def view_of(task: str, words: list[str], expected: int | None) -> "following.View | None":
-    """What shows how far a command is, or says in another language what it says, or whether all luminaires are there. None if none is wanted."""
+def view_of(task: str, words: list[str], expected: int | None, has_story: bool) -> "following.View | None":
+    """What shows how far a command is, or says in another language what it says, or whether all luminaires are there, or hears for a story which
+    addresses it left alone. None if none is wanted."""
     is_far = task in FAR and "--quiet" not in words and os.isatty(2)
-    if not is_far and standard.spoken == standard.ENGLISH and not expected:
+    if not is_far and standard.spoken == standard.ENGLISH and not expected and not has_story:
         return None
     from yolgibat import following
 

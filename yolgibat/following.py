@@ -155,7 +155,7 @@ class View:
     """
 
     def __init__(self, task: str, size: int = 0, expected: int | None = None) -> None:
-        self.task, self.size, self.expected, self.enrolled = task, size, expected, None
+        self.task, self.size, self.expected, self.enrolled, self.left_alone = task, size, expected, None, set()
         self.follower, self.below, self.lock, self.begun, self.painted = Follower(), standard.Below(), threading.Lock(), time.monotonic(), 0.0
 
     def take(self, event: dict[str, typing.Any]) -> None:
@@ -170,6 +170,7 @@ class View:
         with self.lock:
             it = texts.heard(line.removesuffix("\n"))
             self.enrolled = int(it.parts["enrolled"]) if it and it.name == "Said::Commissioned" else self.enrolled
+            self.left_alone |= {int(it.parts["address"])} if it and it.name == "Said::LeftAlone" else set()
             is_far = self.follower.hear(line.removesuffix("\n"))
             self.paint("" if is_far and self.below.is_able else line)
 

@@ -206,7 +206,8 @@ def join(
     is_by_itself = end(title, drives, between.fault is not None)
     between.look_for_rest()
     if tells:
-        tells.end(runs.returncode if program[1:2] == ["run"] and not between.fault else None)
+        is_run = program[1:2] == ["run"] and not between.fault
+        tells.end(runs.returncode if is_run else None, sorted(view.left_alone) if view else [])
         for name, why in tells.faults.items():
             say(f"{title}: the {name} cannot be written: {why}")
     say_end(title, drives, between.fault, is_by_itself)

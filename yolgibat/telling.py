@@ -20,7 +20,7 @@ ALONE = {0xA1: "TERMINATE", 0xA7: "RANDOMISE", 0xA9: "COMPARE", 0xAB: "WITHDRAW"
 SEARCH = {0xB1: "SEARCHADDRH", 0xB3: "SEARCHADDRM", 0xB5: "SEARCHADDRL"}
 PARTS = {0xC2: "H", 0xC3: "M", 0xC4: "L"}
 # How a run that ended with such a status stands.
-STANDS = {0: "all-found", 6: "block-full", 7: "gave-up", 8: "halt-conflict", 13: "all-found", 15: "all-found"}
+STANDS = {0: "all-found", 6: "block-full", 7: "gave-up", 8: "halt-conflict", 13: "left-alone", 15: "unclear"}
 # What a finding says, by its name, with its source behind it: the help of ./dali_sim audit, in which a text may go on in lines further in.
 HELP, GOES_ON = ROOT / "yolgibat/help/dali_sim-audit.txt", re.compile(r"\n {24}(?=\S)")
 FINDING = re.compile(r"^  ([a-z-]+) +((?:is|tells) .*) \((?:10[12],|profile).*\)$", re.M)
@@ -117,12 +117,12 @@ class Run:
             self.bits += FORWARD if answer == "silence" else FORWARD + BACKWARD
         return event | ({"heard": answer.removeprefix("byte ").upper() if answer.startswith("byte") else answer} if is_whole else {"trouble": answer})
 
-    def end(self, status: int | None) -> None:
-        """Nothing more comes: a `run` has ended with this status, or something else."""
+    def end(self, status: int | None, left_alone: list[int] = ()) -> None:
+        """Nothing more comes: a `run` has ended with this status, and left these short addresses alone, or something else has."""
         if self.dump:
             self.dump.end()
         self.write_trace()
-        stands = {"stands": [STANDS[status]]} if status in STANDS else {}
+        stands = {"stands": [STANDS[status]]} | ({"left_alone": left_alone} if left_alone else {}) if status in STANDS else {}
         self.write("story", line_of({"end": True, **stands, "frames": self.frames, "bits": self.bits}))
 
     def write_trace(self) -> None:
@@ -179,4 +179,6 @@ def capture_story(items: str, told: dict[str, typing.Any]) -> str:
         lines += [event, *behind.get(event["event"], [])]
     heard = sum(it["kind"] == "sent" and it["heard"] != "silence" for it in events)
     sent, foreign = (sum(it["kind"] == kind for it in events) for kind in ("sent", "foreign"))
-    return "".join(map(line_of, [*lines, {"end": True, "frames": len(events) - foreign, "bits": FORWARD * sent + BACKWARD * heard}]))
+    found = [{key: it[key] for key in ("short", "random", "known")} for it in told["gear"] if it["known"] != "unknown"]
+    end = {"end": True, "frames": len(events) - foreign, "bits": FORWARD * sent + BACKWARD * heard, "found": found}
+    return "".join(map(line_of, [*lines, end]))
