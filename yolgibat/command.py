@@ -259,7 +259,9 @@ def become(*words: str | os.PathLike[str]) -> typing.NoReturn:
 
 def show(*names: str) -> typing.NoReturn:
     """Writes texts of the help."""
-    become("cat", *(HELP / f"{it}.txt" for it in names))
+    from yolgibat import helps
+
+    sys.exit(standard.ended(helps.text_of(*names), 0))
 
 
 def answer(launcher: str, words: list[str]) -> None:
@@ -280,7 +282,9 @@ def answer(launcher: str, words: list[str]) -> None:
 
 def refuse(launcher: str) -> int:
     """Says what a launcher takes."""
-    standard.say("".join((HELP / f"{it}.txt").read_text() for it in TEXTS[launcher]), "")
+    from yolgibat import helps
+
+    standard.say(helps.text_of(*TEXTS[launcher]), "")
     return BAD_WORD
 
 
