@@ -60,10 +60,10 @@ class Server(serving.Server):
             raise commanding.Bad(f"the driver '{chosen.driver[0]}' cannot be started: it is no program that can be run")
         with self.choice:
             if self.chosen:
-                raise commanding.Busy("a file and a driver were chosen already")
+                raise commanding.Bad("a file and a driver were chosen already")
             self.opened = serving.locked(pathlib.Path(f"{chosen.records[0]}.page"))
             if not self.opened:
-                raise commanding.Busy("a page is served over these records already")
+                raise commanding.Bad("a page is served over these records already")
             self.chosen, chosen.port = chosen, self.server_address[1]
         token = serving.kept_of(self.opened).token or self.token
         self.opened.seek(0)
@@ -117,7 +117,7 @@ def main(chosen: argparse.Namespace, opened: typing.TextIO | None = None) -> int
         return NO_RECORDS
     if not opened:
         return 0
-    site = commanding.Site(program, chosen.records, chosen.others, chosen.block, chosen.driver, chosen.seconds, chosen.title)
+    site = commanding.Site(program, chosen.records, chosen.others, chosen.block, chosen.driver, chosen.seconds, chosen.title, command.expected_of(chosen.expect))
     bus = commanding.Bus(site, (opened.fileno(),))
     bus.read_table()
     try:

@@ -19,7 +19,7 @@ import typing
 import urllib.request
 import webbrowser
 
-from yolgibat import ROOT, commanding, joining, places, standard, story, texts, viewer, walking
+from yolgibat import ROOT, command, commanding, joining, places, standard, story, texts, viewer, walking
 
 LOOPBACK = "127.0.0.1"
 PAGE = ROOT / "yolgibat/page.html"
@@ -235,7 +235,7 @@ class Handler(http.server.BaseHTTPRequestHandler):
         except Refused as why:
             self.write(why.status, "text/plain", f"{why}\n", *why.more)
         except commanding.Bad as why:
-            self.write(400, "text/plain", f"{why}\n")
+            self.write(400, "text/plain", f"{self.said(str(why))}\n")
         except commanding.Busy as why:
             self.write(409, "text/plain", f"{why}\n", ("Why", "busy"))
         except walking.Moved as why:
@@ -311,6 +311,7 @@ class Handler(http.server.BaseHTTPRequestHandler):
         state, language = self.bus.state(), self.language()
         if state["command"]:
             state["command"]["told"] = [texts.told(it, language) for it in state["command"]["said"]]
+            state["command"]["reason"] = [*map(self.said, state["command"].get("reason", []))]
         state["trouble"] = "\n".join(map(self.said, (state["trouble"] or "").splitlines()))
         self.write(200, "application/json", json.dumps(state))
 
@@ -330,11 +331,11 @@ class Handler(http.server.BaseHTTPRequestHandler):
         self.write(200, "application/x-ndjson", came[1])
 
     def tell_csv(self) -> None:
-        self.write(200, "text/csv", self.bus.csv(), ("Content-Disposition", 'attachment; filename="luminaires.csv"'))
+        self.write(200, "text/csv", self.bus.csv(self.language() == command.GERMAN), ("Content-Disposition", 'attachment; filename="luminaires.csv"'))
 
     def do(self) -> None:
         asked = self.body()
-        self.bus.begin(asked.get("command"), asked.get("address"), asked.get("missing", []))
+        self.bus.begin(asked.get("command"), asked.get("address"), asked.get("missing", []), asked.get("expected"))
         self.tell_state()
 
     def walk(self) -> None:
