@@ -3,3 +3,4 @@ mod Words
 mod Begins
 mod Course
 mod Runs
+mod Ends

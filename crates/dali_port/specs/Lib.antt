@@ -1,5 +1,7 @@
 pub mod Times
 pub mod Orders
+pub mod State
+pub mod Courses
 pub mod Frames
 pub mod Ports
 pub mod Calls

@@ -662,7 +662,14 @@ static void port_hears(uint32_t bits, uint32_t number, uint32_t from)
     }
 }
 
-/* A port sends frames, of which half are answered, each edge of the bus 15 us late; it reads frames of others; and edges are lost. */
+/* Edges so often that a capture unit may lose one. */
+static void port_noise(uint32_t from)
+{
+    for (uint32_t edge = 0; edge < 20; edge++)
+        port_edge(edge % 2 == 0, from + 10 * edge);
+}
+
+/* A port sends frames, of which half are answered and some are followed by noise, each edge of the bus 15 us late; it reads frames of others; and edges are lost. */
 static void measure_ports(void)
 {
     for (uint32_t frame = 0; frame < 128; frame++) {
@@ -677,10 +684,13 @@ static void measure_ports(void)
                 port_edge(course.event.is_low, course.now + 15);
             if (++halves == 41 && frame % 2 == 0)
                 port_hears(9, 0x100 + frame, course.now + 5000);
+            else if (halves == 41 && frame % 8 == 1)
+                port_noise(course.now + 5000);
         }
         port_hears(17, 0x10000 + course.number, course.now + 9000);
         course.now = course.event.at;
         measure_from(AT_PORTS + 2, AT_PORTS + 3);
+        port_noise(course.now + 1000);
         course.is_low = frame % 2;
         measure_from(AT_PORTS + 4, AT_PORTS + 5);
     }
