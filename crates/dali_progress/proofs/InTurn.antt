@@ -2,7 +2,7 @@ use Rattle.dali_progress.proofs.Below.{◌≡◌, ◌⊎◌, ℕ, ◌+◌, ◌*�
 use Rattle.dali_progress.proofs.Below.{length, length-set, get_or-set_same, Option, Some, None, count_by, Gear, Has, InBlock, Block, Machine, at_first}
 use Rattle.dali_progress.proofs.Below.{AllFound, block_at, Allowed, KeepsAddresses, HasShort, OfPowered, MASK24, gear_of, gear_at, is_bare}
 use Rattle.dali_progress.proofs.Below.{happens, gone_down, come_up, controller_at, nobody, World, Controller, start, Event, machine_in}
-use Rattle.dali_progress.proofs.Below.{machines_at, machines_after}
+use Rattle.dali_progress.proofs.Below.{machines_at, machines_after, Beginning, BeginsAlone, by_survey, End, Rounds, HasEnded, site_after}
 use Rattle.dali_progress.proofs.Below.{SiteState, world, site_logged, machines, records_now, table_at, IsUnseen, IsAlone, IsSettledAt}
 use Rattle.dali_progress.proofs.Below.{BySurvey, frames, most_frames, bare, bus_silenced, owns, Arbiter, holds_after, if◌then◌else◌}
 use Rattle.std.proofs.lemmas.List.{length-map}
@@ -12,7 +12,8 @@ use Rattle.dali_world.{proofs.Logs.agreeing_now, specs.Site.machines_all}
 use Rattle.dali_events.specs.declared.event.Event.TheVariants as event
 use Rattle.dali_progress.specs.InTurn.{IsStill, Turn, brought, surveyed, left_by, TakesTurn, TakeTurns, after_turns, turn_frames, HasFoundAll, AreSettled}
 use Rattle.dali_progress.specs.InTurn.{IsOfTurns, HaveVacant, AllAreNamed}
-use Rattle.dali_progress.proofs.{Beginnings.{bounded, named}, Gives.{Gives, gives_self, gives_then, bare_fewer}}
+use Rattle.dali_progress.proofs.{Beginnings.{IsAfter, after, bounded, named}, Gives.{Gives, gives_self, gives_then, bare_fewer}}
+use Rattle.dali_progress.proofs.Lone.{ended_rests}
 use Rattle.dali_progress.proofs.Logged.{world_logged, run_logged, machines_logged}
 use Rattle.dali_progress.proofs.{Logged.block_now, Survey.Goes.EndsBy, Survey.Vacant.{IsOver, over, full_held, fewer_left, planned, IsHeld, held_on}}
 use Rattle.dali_progress.proofs.{Survey.Stands.SurveyEnds, Survey.Woken.{all_short, none_bare}}
@@ -75,6 +76,16 @@ comes_alone s c kept still up = record {
   there : controller_at (world (site_logged s (event.Up c kept))) c ≡ come_up kept (controller_at (world s) c)
   there = ap (λ w. controller_at w c) (world_logged s (event.Up c kept))
       ∙ get_or-set_same (world s).controllers c (come_up kept (controller_at (world s) c)) nobody up.0.known
+
+-- once it has ended nothing waits
+pub ended_still : (b : Beginning) (s : SiteState) (c : ℕ) (es : List Event) (e : End) → BeginsAlone b s c → Rounds (by_survey b) s c es
+    → HasEnded (site_after s es) c e → IsStill (site_after s es)
+ended_still b s c es e alone rounds ended =
+    let t : SiteState = site_after s es in
+    let k : Controller = controller_at (world t) c in
+    let now : IsAfter t c = after b s c es alone rounds in
+    let rests = ended_rests (world t) t.queue c now.machine k.outstanding k.last k.told e ended now.lone.moment in
+    record { run = now.run; bus = rests.0.0; trace = rests.0.1 }
 
 -- ---------------------------------------------------------------- one turn
 
