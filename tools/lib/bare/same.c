@@ -447,18 +447,18 @@ static void try_port(void)
     port_called(dali_port_new(&port, (uint8_t)chance_below(&chance, 2), now, &all.is.event));
     for (int times = 0; times < 400; times++) {
         uint8_t was_low = all.is.event.is_low;
-        uint32_t what = chance_below(&chance, 64), rest = all.is.event.at - now;
+        uint32_t what = chance_below(&chance, 256), rest = all.is.event.at - now;
 
         if (rest > 9000 && rest < 20000 && chance_below(&chance, 3) == 0) {
             now = answer_port(now + 5000);
             continue;
         }
-        now = what < 56 ? all.is.event.at : now + chance_below(&chance, 1000);
-        if (what < 56)
+        now = what < 236 ? all.is.event.at : now + chance_below(&chance, 1000);
+        if (what < 236)
             port_called(dali_port_timer(&port, now, &all.is.event));
-        else if (what < 58)
+        else if (what < 238)
             port_called(dali_port_edge(&port, (uint8_t)chance_below(&chance, 2), now, &all.is.event));
-        else if (what < 63)
+        else if (what < 255)
             send_by_port(now);
         else
             port_called(dali_port_lost(&port, (uint8_t)chance_below(&chance, 3), now, &all.is.event));
