@@ -265,12 +265,12 @@ class Job:
 
     reports   what the program wrote of each, as an object
     statuses  what the end of each counts for
-    said      what was said last, if one did not end well
+    said      the lines that were said last, if one did not end well
     """
 
     def __init__(self, entry: Entry, command: str, program: str, address: int | None = None, missing: typing.Sequence[int] = ()) -> None:
         self.entry, self.command, self.program, self.address, self.missing = entry, command, program, address, missing
-        self.reports, self.statuses, self.said, self.rows = [], [], None, []
+        self.reports, self.statuses, self.said, self.rows = [], [], [], []
         self.bus, self.stopped = None, None
 
     def unknown(self) -> list[int]:
@@ -290,17 +290,17 @@ class Job:
                 with alone(self.entry.records[0][0]) as kept:
                     self.command_all(kept)
         except (Taken, places.Unreadable) as why:
-            self.end(NO_RECORDS, standard.translated(str(why)))
+            self.end(NO_RECORDS, [str(why)])
         except OSError as why:
-            self.end(NO_RECORDS, f"error: {why.filename or self.entry.name}: {why.strerror}")
+            self.end(NO_RECORDS, [f"error: {why.filename or self.entry.name}: {why.strerror}"])
 
-    def end(self, status: int, said: str | None) -> None:
+    def end(self, status: int, said: list[str]) -> None:
         self.statuses.append(status)
         self.said = said if status else self.said
 
     def command_all(self, kept: int) -> None:
         if self.stopped:
-            self.end(commanding.STOPPED + self.stopped, spoken("building:not-begun"))
+            self.end(commanding.STOPPED + self.stopped, ["not begun"])
             return
         site, *more = self.entry.sites(self.program)
         bus = self.bus = commanding.Bus(site, (kept,), more)
@@ -317,9 +317,9 @@ class Job:
         with bus.lock:
             for it, status in zip((*bus.command.before, bus.command), bus.command.statuses()):
                 self.reports.append(it.report)
-                self.end(status, "; ".join(map(standard.translated, it.reason())) or None)
+                self.end(status, it.reason())
             if self.stopped and len(self.reports) <= len(more) and self.command in commanding.IN_TURN:
-                self.end(commanding.STOPPED + self.stopped, spoken("building:stopped"))
+                self.end(commanding.STOPPED + self.stopped, ["stopped"])
 
     def stop(self, number: int) -> None:
         """Stops what goes on, since a signal came."""
@@ -333,7 +333,7 @@ class Job:
         for file, _ in self.entry.records:
             words = [self.program, "table", "--json", "--records", file]
             done = subprocess.run(words, stdin=subprocess.DEVNULL, capture_output=True)
-            self.end(done.returncode, done.stderr.decode(errors="replace").strip().rpartition("\n")[2])
+            self.end(done.returncode, done.stderr.decode(errors="replace").splitlines()[-1:])
             rows |= {it["address"]: it for it in json.loads(done.stdout)} if done.returncode == 0 else {}
         names = places.read(places.file_of(self.entry.records[0][0]))
         self.rows = places.rows([rows[it] for it in sorted(rows)], names)
@@ -364,7 +364,7 @@ class Job:
             parts += [spoken(f"came:{key}", list=" ".join(map(str, them)))] if them else []
         parts += [spoken("came:unaddressed")] if any(it.get("unaddressed") for it in self.reports) else []
         parts += [spoken("came:status", status=self.status())] if self.status() else []
-        parts += [self.said] if self.status() not in commanding.WHOLE and self.said else []
+        parts += map(standard.translated, self.said if self.status() not in commanding.WHOLE else [])
         return "; ".join(parts)
 
 
@@ -512,7 +512,7 @@ def written(
         return places.as_csv(table_of(jobs), "bus", is_german=chosen.csv == command.GERMAN)
     if chosen.json:
         kinds = {"table": {"table": table_of(jobs)}, "check": {"changes": changes}}
-        them = [{"bus": it.entry.name, "status": it.status(), "said": it.said, "reports": it.reports} for it in jobs]
+        them = [{"bus": it.entry.name, "status": it.status(), "said": "; ".join(it.said) or None, "reports": it.reports} for it in jobs]
         return json.dumps({"building": building.name, "status": status, "buses": them, **kinds.get(chosen.task, {})}, ensure_ascii=False) + "\n"
     if chosen.task == "table":
         return "".join(f"{it['bus']} {line}\n" for it in table_of(jobs) for line in places.as_text([it]).splitlines())

@@ -43,7 +43,7 @@ class Follower:
         self.unclear: set[int] = set()
         self.lit: set[int] = set()
         self.parts: dict[int, dict[str, str | None]] = {}
-        self.found, self.left, self.since, self.begun = None, None, 0, 0
+        self.found, self.left, self.since, self.begun, self.stands = None, None, 0, 0, []
         # The search address, who was programmed last, the first short address that was asked, and whether the last frame asked one.
         self.search, self.programmed, self.first, self.asks = ["FF"] * 3, None, None, False
 
@@ -54,7 +54,7 @@ class Follower:
             self.take_event(json.loads(line))
 
     def take_event(self, event: dict[str, typing.Any]) -> None:
-        self.is_ended |= "end" in event
+        self.is_ended, self.stands = self.is_ended or "end" in event, event.get("stands", self.stands)
         if event.get("kind") in ("sent", "destroyed"):
             self.frames += 1
             self.take_frame(event["command"], event["frame"], event.get("heard"))
