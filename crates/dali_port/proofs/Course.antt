@@ -13,7 +13,7 @@ use Rattle.dali_port.specs.Laws.{GoesOn}
 
 -- A FRAME GOES ON half bit by half bit.
 
-sent_is : (s t : Sent) → Sending s ≡ Sending t → s ≡ t
+pub sent_is : (s t : Sent) → Sending s ≡ Sending t → s ≡ t
 sent_is s t e = cc
 
 pub goes_is : (b : Bool) (v u : Sent) → (if b then course.Destroyed else course.Goes v) ≡ course.Goes u → v ≡ u

@@ -4,3 +4,4 @@ mod Begins
 mod Course
 mod Runs
 mod Ends
+mod Stretches
