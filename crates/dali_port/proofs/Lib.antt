@@ -5,3 +5,4 @@ mod Course
 mod Runs
 mod Ends
 mod Stretches
+mod Heard

@@ -1,9 +1,11 @@
 use Rattle.std.specs.Prelude.{◌≡◌, ℕ, ◌+◌, ◌-◌, ◌≤◌, ◌⊎◌, Bool, true, false, nat_lt, nat_le}
-use Rattle.std.specs.Prelude.{List, [], ◌∷◌, ◌++◌, if◌then◌else◌}
+use Rattle.std.specs.Prelude.{List, [], ◌∷◌, ◌++◌, Option, Some, None, Ok, Err, if◌then◌else◌}
+use Rattle.dali_port.specs.declared.orders.Word.{Word}
+use Rattle.dali_port.specs.declared.orders.Word.TheVariants.{Heard, Destroyed, Lapsed}
 use Rattle.dali_port.specs.State.{Port, Phase, Sent, Free, Waiting, Sending, Breaking, Listening}
 use Rattle.dali_port.specs.Times.{half_bit, apart}
 use Rattle.dali_port.specs.Frames.{driven_in, next_in, same}
-use Rattle.dali_port.specs.Calls.{is_backwards}
+use Rattle.dali_port.specs.Calls.{Answered, is_backwards}
 use Rattle.dali_port.specs.Laws.{is_sending}
 use Rattle.dali_port.specs.Runs.{Call, Sends, Times, Turns, Loses, time_of, after}
 
@@ -61,3 +63,14 @@ IsWhole p [] = ⊥
 IsWhole p (c ∷ calls) =
     ((is_listening (after p c).phase ≡ true) × (calls ≡ []))
     ⊎ ((is_sending (after p c).phase ≡ true) × IsWhole (after p c) calls)
+
+-- A CALL TELLS SILENCE, A BYTE OR DAMAGED
+abbrev pub is_heard : Option Word → Bool
+is_heard None = false
+is_heard (Some (Heard heard)) = true
+is_heard (Some Destroyed) = false
+is_heard (Some Lapsed) = false
+
+abbrev pub TellsHeard : Answered → Type 0
+TellsHeard (Ok event) = is_heard event.word ≡ true
+TellsHeard (Err refusal) = ⊥
