@@ -1,7 +1,6 @@
 use Rattle.std.proofs.Common.{◌≡◌, ℕ, Bool, true, false, ◌&&◌, Option, Some, None, refl, sym, ◌∙◌, if◌then◌else◌}
 use Rattle.std.specs.Prelude.{Ok, Err}
 use Rattle.dali_port.specs.declared.orders.{Order.Order, Refusal.Refusal, Word.Word}
-use Rattle.dali_port.specs.declared.orders.Word.TheVariants.{Lapsed}
 use Rattle.dali_port.specs.State.{Port, Phase, Free, Waiting, Sending, Breaking, Listening}
 use Rattle.dali_port.specs.declared.state.Event.{Event}
 use Rattle.dali_port.specs.Orders.{is_later}

@@ -6,7 +6,7 @@ use Rattle.dali_port.specs.Courses as course
 use Rattle.dali_port.specs.declared.orders.{Order.Order, Refusal.Refusal}
 use Rattle.dali_port.specs.declared.orders.Refusal.TheVariants.{Backwards, Busy}
 use Rattle.dali_port.specs.Orders.{refusal_of}
-use Rattle.dali_port.specs.State.{Port, Phase, Sent, After, Free, Waiting, Sending, Breaking, Listening}
+use Rattle.dali_port.specs.State.{Port, Phase, Sent, Free, Waiting, Sending, Breaking, Listening}
 use Rattle.dali_port.specs.Times.{half_bit}
 use Rattle.dali_port.specs.Frames.{driven_in, next_in, same, begun_at, compared, turned, sent_beyond, sent_until}
 use Rattle.dali_port.specs.Ports.{broken_at, on_course, until_in, edged, with_level, lost_in}

@@ -7,7 +7,7 @@ use Rattle.dali_port.specs.Times.{half_bit, apart}
 use Rattle.dali_port.specs.Frames.{driven_in, next_in, same}
 use Rattle.dali_port.specs.Calls.{Answered, is_backwards}
 use Rattle.dali_port.specs.Laws.{is_sending}
-use Rattle.dali_port.specs.Runs.{Call, Sends, Times, Turns, Loses, time_of, after}
+use Rattle.dali_port.specs.Runs.{Call, Sends, Times, Turns, Loses, after}
 
 -- WHAT THE BUS DID WHILE A FRAME WAS SENT: stretches of time, each with whether the bus had the
 -- level that was driven. Between two calls it keeps its level, and a half bit ends in its time;
