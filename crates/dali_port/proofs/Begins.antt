@@ -9,10 +9,10 @@ use Rattle.dali_port.specs.State.{Sent}
 use Rattle.dali_port.specs.State.{window_of}
 use Rattle.dali_port.specs.Orders.{is_later}
 use Rattle.dali_port.specs.Frames.{begun_at}
-use Rattle.dali_port.specs.Ports.{read_at, has_no_power, is_broken_off, listened_by, since_edge, until_in, until, edge_in, edged, lost_in, lost, on_course}
+use Rattle.dali_port.specs.Ports.{read_at, has_no_power, is_broken_off, listened_by, since_edge, until_in, until, edge_in, edged, lost_in, lost}
 use Rattle.dali_port.specs.Calls.{drive_of, drive_in, is_backwards, may_begin, is_too_late, timed_in, timed, timer_after}
-use Rattle.dali_port.specs.Calls.{same_level, edge_after, lost_after, refused, is_gone, taken, send_after, send_after_by}
-use Rattle.dali_port.specs.Laws.{IsDrivenLow, is_sending, Begins, GoesOn}
+use Rattle.dali_port.specs.Calls.{same_level, edge_after, lost_after, refused, is_gone, send_after, send_after_by}
+use Rattle.dali_port.specs.Laws.{IsDrivenLow, is_sending, Begins}
 use Rattle.dali_port.proofs.Words.{read_keeps}
 
 -- WHAT IS DRIVEN LOW

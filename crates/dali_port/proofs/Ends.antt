@@ -5,15 +5,14 @@ use Rattle.std.proofs.lemmas.Bool.Decides.{nat_tests}
 use Rattle.std.specs.Prelude.{Ok, Err}
 use Rattle.std.specs.Option.{option_map}
 use Rattle.dali_frame.specs.declared.frames.Answer.{Answer}
-use Rattle.dali_wire.specs.declared.receiver.{Reading.Reading, Told.Told, Frame.Frame as Told-frame}
+use Rattle.dali_wire.specs.declared.receiver.{Reading.Reading, Frame.Frame as Told-frame}
 use Rattle.dali_wire.specs.declared.receiver.Reading.TheVariants as reading
-use Rattle.dali_wire.specs.declared.window.Window.{Window}
 use Rattle.dali_wire.specs.Reception.{told_of, receiver_at}
-use Rattle.dali_wire.specs.Windows.{told_after, window_at, answer_at, passed, is_idle}
+use Rattle.dali_wire.specs.Windows.{told_after, is_idle}
 use Rattle.dali_port.specs.Courses.{Course}
 use Rattle.dali_port.specs.Courses as course
 use Rattle.dali_port.specs.declared.orders.{Order.Order, Refusal.Refusal, Word.Word}
-use Rattle.dali_port.specs.State.{Port, Phase, Sent, After, Free, Waiting, Sending, Breaking, Listening, window_of}
+use Rattle.dali_port.specs.State.{Port, Sent, After, Free, Waiting, Sending, Breaking, Listening, window_of}
 use Rattle.dali_port.specs.declared.state.Event.{Event}
 use Rattle.dali_port.specs.Times.{half_bit, settling_of}
 use Rattle.dali_port.specs.Orders.{heard_word}

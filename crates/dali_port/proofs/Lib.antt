@@ -4,3 +4,5 @@ mod Begins
 mod Course
 mod Runs
 mod Ends
+mod Stretches
+mod Heard

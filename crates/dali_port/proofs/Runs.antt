@@ -18,12 +18,12 @@ use Rattle.dali_port.specs.State.{Sent}
 use Rattle.dali_port.specs.State.{window_of}
 use Rattle.dali_port.specs.Orders.{is_randomise}
 use Rattle.dali_port.specs.Frames.{driven_in, same, sent_until}
-use Rattle.dali_port.specs.Ports.{follows, noted, noted_frame, noted_told, read_at, has_no_power, is_broken_off, broken_at, on_course, listened_by, since_edge}
-use Rattle.dali_port.specs.Ports.{rest_event, until_in, event_in, until, event_until, edge_in, edged, lost_in, lost, lapsed_in}
-use Rattle.dali_port.specs.Calls.{is_backwards, may_begin, is_too_late, is_drawn, timed_in, timed, timer_after, same_level, edge_after, lost_after}
-use Rattle.dali_port.specs.Calls.{refused, is_gone, taken, taken_word, send_after, send_after_by, send_told_by, also}
+use Rattle.dali_port.specs.Ports.{follows, noted, noted_frame, noted_told, has_no_power, is_broken_off, broken_at, on_course, listened_by, since_edge}
+use Rattle.dali_port.specs.Ports.{until_in, event_in, until, event_until, edge_in, edged, lost_in, lost}
+use Rattle.dali_port.specs.Calls.{is_backwards, may_begin, is_too_late, is_drawn, timed_in, timed, timer_after, same_level}
+use Rattle.dali_port.specs.Calls.{refused, is_gone, taken, taken_word, send_after_by, send_told_by, also}
 use Rattle.dali_port.specs.Laws.{is_sending}
-use Rattle.dali_port.specs.Runs.{Call, Sends, Times, Turns, Loses, after, after_all, told_by, read_in, frame_in, forward_in, sent_in}
+use Rattle.dali_port.specs.Runs.{Call, Sends, Times, Turns, Loses, after, after_all, read_in, frame_in, forward_in, sent_in}
 use Rattle.dali_port.specs.Runs.{Marks, marked, marks_after, marks_after_all, marks_of}
 use Rattle.dali_port.proofs.Words.{was_free}
 use Rattle.dali_port.proofs.Begins.{until_still, timer_begins}

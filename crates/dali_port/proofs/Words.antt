@@ -1,5 +1,5 @@
-use Rattle.std.proofs.Common.{◌≡◌, ℕ, Bool, true, false, ◌&&◌, not, Option, Some, None, refl, sym, ◌∙◌, ap, subst, if◌then◌else◌, is_some}
-use Rattle.std.specs.Prelude.{Result, Ok, Err}
+use Rattle.std.proofs.Common.{◌≡◌, ℕ, Bool, true, false, ◌&&◌, not, Option, Some, None, refl, sym, ◌∙◌, subst, if◌then◌else◌, is_some}
+use Rattle.std.specs.Prelude.{Ok, Err}
 use Rattle.dali_frame.specs.declared.frames.{Forward.Forward, Answer.Answer}
 use Rattle.dali_wire.specs.declared.receiver.{Told.Told, Frame.Frame}
 use Rattle.dali_wire.specs.declared.receiver.Frame.TheVariants as read
@@ -18,10 +18,10 @@ use Rattle.dali_port.specs.State.{Sent}
 use Rattle.dali_port.specs.State.{After}
 use Rattle.dali_port.specs.Frames.{driven_in, same, sent_until}
 use Rattle.dali_port.specs.State.{window_of}
-use Rattle.dali_port.specs.Orders.{is_later, heard_word, is_randomise, refusal_of}
+use Rattle.dali_port.specs.Orders.{is_later, heard_word, refusal_of}
 use Rattle.dali_port.specs.Ports.{noted, noted_frame, noted_told, read_at, has_no_power, lapsed_in, is_broken_off, on_course, listened_by, since_edge}
-use Rattle.dali_port.specs.Ports.{broken_at, until_in, event_in, until, event_until, lapsed_word, lapses, edge_in, edged, lost_in, lost, only}
-use Rattle.dali_port.specs.Calls.{Answered, is_backwards, also, may_begin, is_too_late, timed_in, timed_word, timed, timer_after, timer_told, is_free}
+use Rattle.dali_port.specs.Ports.{broken_at, until_in, event_in, until, event_until, lapsed_word, edge_in, edged, lost_in, lost, only}
+use Rattle.dali_port.specs.Calls.{is_backwards, also, may_begin, is_too_late, timed_in, timed_word, timer_after, timer_told, is_free}
 use Rattle.dali_port.specs.Calls.{same_level, edge_after, edge_told, lost_after, lost_told, refused, is_gone}
 use Rattle.dali_port.specs.Calls.{send_after, send_told, send_after_by, send_told_by}
 use Rattle.dali_port.specs.Laws.{is_busy, IsOneWord, TellsOne, HandsIn}

@@ -1,4 +1,4 @@
-use Rattle.std.specs.Prelude.{ℕ, ◌-◌, ◌+◌, ◌^◌, min, max, Bool, true, false, ◌&&◌, ◌||◌, not, ◌==◌}
+use Rattle.std.specs.Prelude.{ℕ, ◌-◌, ◌+◌, ◌^◌, min, max, Bool, true, false, ◌&&◌, ◌||◌, not}
 use Rattle.std.specs.Prelude.{nat_lt, nat_le, Option, Some, None, is_none, Result, Ok, Err}
 use Rattle.std.specs.Prelude.{if◌then◌else◌}
 use Rattle.dali_wire.specs.declared.window.Window.{Window}
@@ -7,7 +7,7 @@ use Rattle.dali_port.specs.declared.orders.Order.{Order}
 use Rattle.dali_port.specs.declared.orders.Refusal.{Refusal}
 use Rattle.dali_port.specs.declared.orders.Refusal.TheVariants.{Backwards, Busy}
 use Rattle.dali_port.specs.declared.orders.Word.{Word}
-use Rattle.dali_port.specs.declared.orders.Word.TheVariants.{Heard, Destroyed, Lapsed}
+use Rattle.dali_port.specs.declared.orders.Word.TheVariants.{Lapsed}
 use Rattle.dali_port.specs.State.{Phase}
 use Rattle.dali_port.specs.State.{Free, Waiting, Sending, Breaking}
 use Rattle.dali_port.specs.State.{Listening}
@@ -19,7 +19,7 @@ use Rattle.dali_port.specs.Times.{half_bit, frame_time, settling_of, break_time,
 use Rattle.dali_port.specs.Times.{draw_time, power_time}
 use Rattle.dali_port.specs.Orders.{is_later, is_first, is_second, refusal_of}
 use Rattle.dali_port.specs.Frames.{begun_at, driven_in, next_in}
-use Rattle.dali_port.specs.Ports.{rested, rest_event, until, event_until, edged, lost, lapsed_word}
+use Rattle.dali_port.specs.Ports.{until, event_until, edged, lost, lapsed_word}
 use Rattle.dali_port.specs.Ports.{only}
 
 -- EACH CALL of a port: what it tells, and the port after it. A call that does not fit is refused,

@@ -1,5 +1,5 @@
 use Rattle.std.specs.Prelude.{◌≡◌, ℕ, ◌+◌, ◌≤◌, ◌⊎◌, Bool, true, false, ◌&&◌, not, is_some, Option}
-use Rattle.std.specs.Prelude.{Result, Ok, Err}
+use Rattle.std.specs.Prelude.{Ok, Err}
 use Rattle.dali_port.specs.declared.orders.Word.{Word}
 use Rattle.dali_port.specs.State.{Sent}
 use Rattle.dali_port.specs.State.{Phase}

@@ -1,5 +1,5 @@
-use Rattle.std.specs.Prelude.{ℕ, ◌-◌, ◌+◌, ◌^◌, min, Bool, true, false, ◌&&◌, ◌||◌, not}
-use Rattle.std.specs.Prelude.{nat_lt, nat_le, Option, Some, None, if◌then◌else◌}
+use Rattle.std.specs.Prelude.{ℕ, ◌-◌, ◌^◌, min, Bool, true, false, ◌&&◌, ◌||◌}
+use Rattle.std.specs.Prelude.{nat_le, Option, Some, None, if◌then◌else◌}
 use Rattle.std.specs.Option.{option_map}
 use Rattle.dali_frame.specs.declared.frames.Forward.{Forward}
 use Rattle.dali_frame.specs.declared.frames.Answer.{Answer}
@@ -23,7 +23,6 @@ use Rattle.dali_port.specs.State.{Phase}
 use Rattle.dali_port.specs.State.{Free, Waiting, Sending, Breaking}
 use Rattle.dali_port.specs.State.{Listening}
 use Rattle.dali_port.specs.State.{Port}
-use Rattle.dali_port.specs.declared.state.Read.{Read}
 use Rattle.dali_port.specs.declared.state.Read.TheVariants.{Frame, NoPower}
 use Rattle.dali_port.specs.declared.state.Event.{Event}
 use Rattle.dali_port.specs.Times.{break_time, pair_time, power_time}

@@ -11,7 +11,6 @@ use Rattle.dali_port.specs.State.{Listening}
 use Rattle.dali_port.specs.State.{Port}
 use Rattle.dali_port.specs.declared.state.Read.{Read}
 use Rattle.dali_port.specs.declared.state.Read.TheVariants.{Frame, NoPower}
-use Rattle.dali_port.specs.declared.state.Event.{Event}
 use Rattle.dali_port.specs.Orders.{is_randomise}
 use Rattle.dali_port.specs.Ports.{follows}
 use Rattle.dali_port.specs.Calls.{Answered, send_after, send_told, timer_after, timer_told}

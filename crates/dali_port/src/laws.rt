@@ -10,7 +10,9 @@ ghost use Rattle.dali_port.specs.State.{Port};
 ghost use Rattle.dali_port.specs.Calls.{timer_after, timer_told, edge_after, edge_told, lost_after, lost_told};
 ghost use Rattle.dali_port.specs.Calls.{send_after, send_told, drive_of, is_drawn};
 ghost use Rattle.dali_port.specs.Runs.{Call, Times, after_all, marks_of, marks_after, marks_after_all};
-ghost use Rattle.dali_port.specs.Runs.{words, frames, under_way};
+ghost use Rattle.dali_port.specs.Runs.{words, frames, under_way, told_by};
+ghost use Rattle.dali_port.specs.Stretches.{seen_by_all, Follows, IsWhole, TellsHeard, is_listening};
+ghost use Rattle.dali_port.specs.Frames.{begun_at};
 ghost use Rattle.dali_port.specs.Times.{half_bit, settling_of, break_time};
 ghost use Rattle.dali_wire.specs.Windows.{is_idle};
 ghost use Rattle.dali_port.specs.Laws.{TellsOne, HandsIn, IsDrivenLow, is_sending, is_waiting, Begins, GoesOn};
@@ -45,6 +47,15 @@ pub fn each_frame_ends_in_time()
         → since + break_time ≤ now → TellsWord (timer_told p now) }
     ensures listening { (p : Port) (l : After) (now : ℕ) → p.phase ≡ Listening l → p.called ≤ now
         → p.edge + 50000 < l.elapsed + now → TellsWord (timer_told p now) }
+{}
+
+/// Silence, a byte or damaged is told of a frame that was sent whole, and of no other; and it is whole only if from its
+/// first edge to the end of its stop condition the level of the bus never differed for longer than the bound from the
+/// one that was driven.
+pub fn what_is_whole_was_compared()
+    ensures heard { (p : Port) (c : Call) → TellsHeard (told_by p c) → is_listening p.phase ≡ true }
+    ensures whole { (p : Port) (order : Order) (calls : List Call) → p.phase ≡ Sending (begun_at order p.called)
+        → IsWhole p calls → Follows 0 (seen_by_all p calls) }
 {}
 
 /// A port drives low only within its frame or a break.
