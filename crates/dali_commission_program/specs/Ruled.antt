@@ -93,12 +93,12 @@ WhatWasPutKeepsPromise {K = K} is_up is_sound holds =
 -- WHAT A TASK THAT ENDED WELL PUT IS SO, whatever its records are, and those of others
 abbrev pub PutsSo : {F K R W : Type 0} (is_up is_sound : K → Type 0)
     (holds : K → List Record → Type 0) (kept_of : K → Kept) (block_of : K → Block)
-    → (F → F → Call → Type 0) → (F → Look → Type 0) → (F → Seen → K → Type 0)
+    (made began : F → F → Call → Type 0) → (F → Look → Type 0) → (F → Seen → K → Type 0)
     → (R → Option (List ℕ)) → (W → Option (List ℕ)) → (Said → Type 0) → (List ℕ → Type 0) → Task
     → (F → List (String Global) → Talk → Talk → Type 0) → Type 0
-PutsSo {F = F} {R = R} {W = W} is_up is_sound holds kept_of block_of made saw opens remaining
+PutsSo {F = F} {R = R} {W = W} is_up is_sound holds kept_of block_of made began saw opens remaining
     contents told wrote task so =
     (records : List (String Global)) (others : List Block) (was now : F) (x y : Session R W)
-    → HasDone is_up is_sound holds kept_of block_of made saw opens remaining contents told wrote
-    records others was now x y (Ok (tt {0})) task
+    → HasDone is_up is_sound holds kept_of block_of made began saw opens remaining contents told
+    wrote records others was now x y (Ok (tt {0})) task
     → so was records (talk_of remaining contents x.driver) (talk_of remaining contents y.driver)

@@ -31,19 +31,21 @@ where
     R: Read,
     W: Write,
     ensures identify { (a : ℕ) → PutsSomething F.Open.is_up F.Open.is_sound F.Open.holds F.Open.kept F.Open.block F.made
-        F.saw F.opens R.remaining W.contents (S.told _system.now) (S.wrote _system.now) (task.Identify a) }
-    ensures check { PutsSomething F.Open.is_up F.Open.is_sound F.Open.holds F.Open.kept F.Open.block F.made F.saw
-        F.opens R.remaining W.contents (S.told _system.now) (S.wrote _system.now) task.Check }
-    ensures clear { PutsSomething F.Open.is_up F.Open.is_sound F.Open.holds F.Open.kept F.Open.block F.made F.saw
-        F.opens R.remaining W.contents (S.told _system.now) (S.wrote _system.now) task.Clear }
+        F.began F.saw F.opens R.remaining W.contents (S.told _system.now) (S.wrote _system.now) (task.Identify a) }
+    ensures check { PutsSomething F.Open.is_up F.Open.is_sound F.Open.holds F.Open.kept F.Open.block F.made F.began
+        F.saw F.opens R.remaining W.contents (S.told _system.now) (S.wrote _system.now) task.Check }
+    ensures clear { PutsSomething F.Open.is_up F.Open.is_sound F.Open.holds F.Open.kept F.Open.block F.made F.began
+        F.saw F.opens R.remaining W.contents (S.told _system.now) (S.wrote _system.now) task.Clear }
     ensures run { (setup : Setup) → PutsSomething F.Open.is_up F.Open.is_sound F.Open.holds
-        F.Open.kept F.Open.block F.made F.saw F.opens R.remaining W.contents (S.told _system.now)
+        F.Open.kept F.Open.block F.made F.began F.saw F.opens R.remaining W.contents (S.told _system.now)
         (S.wrote _system.now) (task.Run setup) }
     ensures mend { (wanted : Mend) → PutsSomething F.Open.is_up F.Open.is_sound F.Open.holds F.Open.kept F.Open.block
-        F.made F.saw F.opens R.remaining W.contents (S.told _system.now) (S.wrote _system.now) (task.Mend wanted) }
+        F.made F.began F.saw F.opens R.remaining W.contents (S.told _system.now) (S.wrote _system.now) (task.Mend
+        wanted) }
     ensures refused { RefusedPutsSomething }
     ensures replace { (wanted : Replacement) → PutsOrLooks F.Open.is_up F.Open.is_sound F.Open.holds F.Open.kept
-        F.Open.block F.made F.saw F.opens R.remaining W.contents (S.told _system.now) (S.wrote _system.now) wanted }
+        F.Open.block F.made F.began F.saw F.opens R.remaining W.contents (S.told _system.now) (S.wrote _system.now)
+        wanted }
 {}
 
 /// WHAT A TASK PUTS KEEPS THE RULES OF THE PAGE of `dali_statement`, if it ended well: each line is that of an act of
@@ -60,17 +62,17 @@ where
     R: Read,
     W: Write,
     ensures identify { (a : ℕ) → a < 64 → PutsSo F.Open.is_up F.Open.is_sound F.Open.holds F.Open.kept F.Open.block
-        F.made F.saw F.opens R.remaining W.contents (S.told _system.now) (S.wrote _system.now) (task.Identify a)
+        F.made F.began F.saw F.opens R.remaining W.contents (S.told _system.now) (S.wrote _system.now) (task.Identify a)
         (λ was records x y. AsksByRules x y) }
-    ensures check { PutsSo F.Open.is_up F.Open.is_sound F.Open.holds F.Open.kept F.Open.block F.made F.saw F.opens
-        R.remaining W.contents (S.told _system.now) (S.wrote _system.now) task.Check
+    ensures check { PutsSo F.Open.is_up F.Open.is_sound F.Open.holds F.Open.kept F.Open.block F.made F.began F.saw
+        F.opens R.remaining W.contents (S.told _system.now) (S.wrote _system.now) task.Check
         (λ was records x y. AsksByRules x y) }
     ensures run { (setup : Setup) → setup.mends ≡ false → PutsSo F.Open.is_up F.Open.is_sound F.Open.holds F.Open.kept
-        F.Open.block F.made F.saw F.opens R.remaining W.contents (S.told _system.now) (S.wrote _system.now)
+        F.Open.block F.made F.began F.saw F.opens R.remaining W.contents (S.told _system.now) (S.wrote _system.now)
         (task.Run setup) (λ was records x y. PutsOver F.Open.is_up F.Open.is_sound F.Open.holds F.Open.block
         (IsOpened F.Open.block F.saw F.opens was (only records) setup.block) x y) }
     ensures replace { (wanted : Replacement) → wanted.short < 64 → PutsSo F.Open.is_up F.Open.is_sound F.Open.holds
-        F.Open.kept F.Open.block F.made F.saw F.opens R.remaining W.contents (S.told _system.now)
+        F.Open.kept F.Open.block F.made F.began F.saw F.opens R.remaining W.contents (S.told _system.now)
         (S.wrote _system.now) (task.Replace wanted)
         (λ was records x y. ReplacesByRules F.Open.is_up F.Open.is_sound F.Open.holds wanted.short x y) }
     ensures survey_left { WhatASurveyLeavesKeepsRules F.Open.is_up F.Open.is_sound F.Open.holds }

@@ -27,7 +27,7 @@ returns-clause-run g c setup none records others was now x y lent =
 pub returns-clause-replace : goal.returns-clause-replace
 returns-clause-replace g c wanted short records others was now x y (random, replaces) =
     replaced g.F.Open.Keep.is_up g.F.Open.Keep.is_sound g.F.Open.Keep.holds g.F.Open.Keep.kept g.F.Open.Keep.block g.F.Stores.made g.F.Stores.saw
-    g.F.Stores.opens g.R.Read.remaining g.W.Write.contents (g.S.Voice.told c.args._system.now) wanted records random was now x.driver y.driver short replaces
+    g.F.Stores.opens g.R.Read.remaining g.W.Write.contents (g.S.Voice.told c.args._system.now) wanted records random was now x y short replaces
 
 pub returns-clause-survey_left : goal.returns-clause-survey_left
 returns-clause-survey_left g c = survey_left g.F.Open.Keep.is_up g.F.Open.Keep.is_sound g.F.Open.Keep.holds
