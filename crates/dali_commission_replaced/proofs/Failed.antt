@@ -1,11 +1,11 @@
-use Rattle.std.proofs.Common.{◌≡◌, ◌⊎◌, ℕ, ◌<◌, ◌≤◌, ◌+◌, arith, List, [], ◌∷◌, Option, Some, None, Bool, true, false, Result, Ok, Err, length, refl, sym, ap, subst, inl}
+use Rattle.std.proofs.Common.{◌≡◌, ◌⊎◌, ℕ, ◌<◌, arith, List, Option, Some, None, Bool, true, false, Ok, Err, refl, sym, ap, subst, inl}
 use Rattle.std.proofs.Common.{inr}
 use Rattle.std.specs.declared.{alloc.Global.Global, string.String.String}
 use Rattle.dali_script.specs.{Records.Kept, declared.block.Block.Block, declared.records.Record.Record}
 use Rattle.dali_script.specs.declared.orders.Input.TheVariants.{Survey}
 use Rattle.dali_reserve.specs.Store.{HasRecords}
 use Rattle.dali_commissioning.specs.{Drivers.{Talk, talk_of, IsCut, has_heard}, Rules.AsksByRules, Rules.PutsByRules, Rules.LeavesByRules}
-use Rattle.dali_commissioning.specs.declared.{census.Reply.Reply, conducting.Ended.Ended, driver.DriverLink.DriverLink}
+use Rattle.dali_commissioning.specs.declared.{conducting.Ended.Ended, driver.DriverLink.DriverLink}
 use Rattle.dali_commissioning.specs.declared.fault.CommissionFault.{CommissionFault}
 use Rattle.dali_commissioning.specs.declared.newcomers.Newcomers.TheVariants as new
 use Rattle.dali_commissioning.specs.declared.fault.CommissionFault.TheVariants as fault
@@ -20,7 +20,7 @@ use Rattle.dali_commission_said.specs.declared.{failure.Failure.Failure, report.
 use Rattle.dali_commission_tasks.specs.declared.tasks.Replacement.{Replacement}
 use Rattle.dali_commission_stores.specs.{Calls.{Call, Look}, declared.records.Seen.Seen}
 use Rattle.dali_commission_replaced.specs.Cut.{HasNotAskedOthers, IsGivingCut, IsNotInFirst, IsNotHeardOf}
-use Rattle.dali_commission_replaced.specs.Asking.{HasAskedOthers, HasNotConfirmed, IsNotConfirmedBy, IsGivenIn, GivesCut, HasNotReplacedSo, FailsSo, FailsAfter, HasNotReplaced}
+use Rattle.dali_commission_replaced.specs.Asking.{HasAskedOthers, IsNotConfirmedBy, IsGivenIn, GivesCut, HasNotReplacedSo, FailsSo, FailsAfter, HasNotReplaced}
 use Rattle.dali_commission_replaced.specs.Ruled.{LooksByRules, GivesByRules, BreaksOff, FailsByRules}
 use Rattle.dali_commission_replaced.proofs.Ruled.{all_heard, others_asked, runs_so, given_so, gives, gives_between, given_first, replaced_so}
 

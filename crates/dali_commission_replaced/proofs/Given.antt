@@ -1,22 +1,22 @@
-use Rattle.std.proofs.Common.{◌≡◌, ◌∙◌, ◌⊎◌, ℕ, List, [], ◌∷◌, ◌++◌, Option, Some, None, Result, Ok, Err, OnOk, refl, ap, inl, inr, subst, sym}
+use Rattle.std.proofs.Common.{◌≡◌, ◌∙◌, ℕ, List, [], ◌∷◌, ◌++◌, Option, Some, None, Result, Ok, Err, OnOk, refl, ap, inl, inr, subst, sym}
 use Rattle.std.proofs.lemmas.Bool.{false≢true}
-use Rattle.std.specs.Prelude.{IfOk, IfErr, IsErr, is_ok, map, false, string_bytes}
+use Rattle.std.specs.Prelude.{IfOk, IfErr, IsErr, is_ok, map, string_bytes}
 use Rattle.std.specs.declared.{alloc.Global.Global, string.String.String}
 use Rattle.dali_script.specs.{declared.block.Block.Block, declared.records.Record.Record, Records.Kept, Records.HasAddress}
 use Rattle.dali_commissioning.specs.declared.census.Reply.TheVariants as heard
 use Rattle.dali_commissioning.specs.declared.{conducting.PassEnd.PassEnd, driver.DriverLink.DriverLink}
 use Rattle.dali_commissioning.specs.{Census.IsAnswered, Drivers.{Talk, talk_of, lines_of}, Runs.IsRead}
 use Rattle.dali_replacement.specs.declared.come.Come.{Come}
-use Rattle.dali_replacement.specs.{Permit.{HasGiven, HasLooked, alone, confirmed_at, confirmed_random}, Tables.{IsComplete, IsGathered, Keeps, Reserves}}
+use Rattle.dali_replacement.specs.{Permit.{HasGiven, HasLooked, alone, confirmed_at, confirmed_random}, Tables.{IsComplete, IsGathered}}
 use Rattle.dali_replacement.specs.{declared.swapping.Swap.Swap, Swapping.{address_of, names_of, texts_of}}
 use Rattle.dali_commission_said.specs.declared.{failure.Failure.Failure, progress.Aim.Aim, report.{Report.Report, Session.Session}, said.Said.Said}
 use Rattle.dali_commission_said.specs.{Reports.heard_of, Said.{AreTold, WhySaid, heard_said}}
 use Rattle.dali_commission_tasks.specs.declared.tasks.Replacement.{Replacement}
-use Rattle.dali_commission_stores.specs.{Calls.{Call, Look, Read, AreMade}, declared.records.Seen.Seen, Settling.new_at}
-use Rattle.dali_commission_stores.specs.{Lent.{IsLent, IsOpened, IsHeld, AreRead, lent_calls}, Settled.IsExchanged}
+use Rattle.dali_commission_stores.specs.{Calls.{Call, Look, Read}, declared.records.Seen.Seen, Settling.new_at}
+use Rattle.dali_commission_stores.specs.{Lent.{IsLent, IsOpened, IsHeld, AreRead}, Settled.IsExchanged}
 use Rattle.dali_commission_asked.specs.{declared.ending.AtLast.AtLast, Ending.{HasAskedAtLast, pass_at_last}}
 use Rattle.dali_commission_replaced.specs.{declared.replacing.DueSwap.DueSwap, Due.{Dues, EndsDue}}
-use Rattle.dali_commission_replaced.specs.Replacing.{IsGiver, IsDue, HasCome, AreAsideIf, AreAtPlaces, AreApart, AreUnannounced}
+use Rattle.dali_commission_replaced.specs.Replacing.{IsGiver, HasCome, AreAsideIf, AreAtPlaces, AreApart}
 use Rattle.dali_commission_replaced.specs.Finishing.{AreFinished}
 use Rattle.dali_commission_replaced.specs.Asking.{HasAskedOthers, given_as, HasGivenSo, GivesSo, IsGivenIn, GivesFirst, IsNamed, IsRenewed, AreRenewed}
 use Rattle.dali_commission_replaced.specs.Asking.{IsPlanned, HasReplacedSo, HasReplacedAnew, HasReplaced, first_table, NotesFirst, IsConfirmed}

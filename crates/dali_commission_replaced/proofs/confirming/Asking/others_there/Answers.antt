@@ -1,5 +1,5 @@
 use Rattle.std.proofs.Common.{inr, refl, sym}
-use Rattle.dali_commission_replaced.proofs.Cut.{few, missing, missing_unheard, not_there}
+use Rattle.dali_commission_replaced.proofs.Cut.{missing, missing_unheard, not_there}
 use Rattle.dali_commission_replaced.proofs.confirming.Asking.others_there.Goals as goal
 
 pub returns-then-has_heard-clause-failed : goal.returns-then-has_heard-clause-failed
