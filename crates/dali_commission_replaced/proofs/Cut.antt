@@ -1,5 +1,5 @@
 use Rattle.std.proofs.Common.{◌≡◌, ◌∙◌, ◌⊎◌, ◌≤◌, ◌+◌, arith, ℕ, zero, suc, length, List, [], ◌∷◌, ◌++◌, Option, Some, None, Bool, Result, Ok, Err, OnOk, true}
-use Rattle.std.proofs.Common.{false, refl, ap, inl, inr, subst, sym}
+use Rattle.std.proofs.Common.{OnErr, false, refl, ap, inl, inr, subst, sym}
 use Rattle.std.proofs.lemmas.{Bool.false≢true, List.length_push}
 use Rattle.std.specs.Prelude.{◌↔◌, IsTrue, IfOk, IfErr, IsErr, IsErrAnd}
 use Rattle.std.specs.declared.{alloc.Global.Global, string.String.String}
@@ -19,7 +19,7 @@ use Rattle.dali_commission_stores.specs.{Calls.{Call, Look, Read}, declared.reco
 use Rattle.dali_commission_stores.specs.{Settled.IsExchangedInPart, Settling.new_at}
 use Rattle.dali_commission_replaced.specs.{declared.replacing.DueSwap.DueSwap, Due.{Dues, EndsDue}, Cut.{HasNotAskedOthers, IsMissing}}
 use Rattle.dali_commission_replaced.specs.Replacing.{IsDue, AreAtPlaces, AreApart, AreUnannounced}
-use Rattle.dali_commission_replaced.specs.Finishing.{AreFinished}
+use Rattle.dali_commission_replaced.specs.Finishing.{AreFinished, AreFinishedInPart}
 use Rattle.dali_commission_replaced.specs.Asking.{HasAskedOthers, HasNotConfirmed, IsNotConfirmedBy, GivesSo, is_given, IsGivenIn, GivesFirst, GivesNone}
 use Rattle.dali_commission_replaced.specs.Asking.{IsNamed, HasNotGivenFirst, AreRenewed, IsNotDue, EndsCut, GivesCut, IsPlanned}
 use Rattle.dali_commission_replaced.specs.Asking.{HasReplacedSo, HasNotReplacedSo, FailsSo, FailsAfter, HasNotReplaced}
@@ -34,8 +34,8 @@ lent_badly opens came x y done (Ok out) lent = tt
 lent_badly opens came x y done (Err e) (inl (err, same)) = inl (refl, same)
 lent_badly opens came x y done (Err e) (inr (from, to, did, opened, does, well)) = inr (from, to, did, opened, does, tt)
 
-with_same : {A B F : Type 0} (at : F) → A ⊎ B → A ⊎ ((at ≡ at) × B)
-with_same at (inl it) = inl it
+with_same : {A B F : Type 0} (at : F) → A ⊎ B → (A × (at ≡ at)) ⊎ ((at ≡ at) × B)
+with_same at (inl it) = inl (it, refl)
 with_same at (inr it) = inr (refl, it)
 
 abbrev failure_or : {T : Type 0} → Failure → Result T Failure → Failure
@@ -243,10 +243,10 @@ module _ {F K R W : Type 0} (is_up is_sound : K → Type 0) (holds : K → List 
       ))
 
   -- so it is while the records are held
-  pub unput : (names : List (String Global)) (all : List Kept) (was at : F) (x y : Session R W) (r : Result DueSwap Failure) → IsErr r → y ≡ x
+  pub unput : (names : List (String Global)) (all : List Kept) (was at : F) (x y : Session R W) (r : Result DueSwap Failure) → IsErr r → y ≡ x → at ≡ was
       → Dues is_up is_sound holds kept_of block_of made saw opens remaining contents told wanted names all was at x y r
-  unput names all was at x y (Ok due) fails same = absurd (false≢true fails)
-  unput names all was at x y (Err e) fails same = inl same
+  unput names all was at x y (Ok due) fails same stays = absurd (false≢true fails)
+  unput names all was at x y (Err e) fails same stays = inl (same, stays)
 
   dues_so : (names : List (String Global)) (all : List Kept) (was at : F) (x y : DriverLink R W) (before mid after : Report) (r : Result DueSwap Failure)
       → AreUnannounced saw was names → IfOk r (IsDue wanted.short names all)
@@ -280,15 +280,17 @@ module _ {F K R W : Type 0} (is_up is_sound : K → Type 0) (holds : K → List 
   fails_held : (began : F → F → Call → Type 0) (H : Type 0) (names : List (String Global)) (was now : F) (x y : Session R W) (failure : Failure)
       → IsHeld {H = H} saw names (Dues is_up is_sound holds kept_of block_of made saw opens remaining contents told wanted names)
       (λ _ from to due r. EndsDue made began saw from to due r) was now x y (Err failure)
-      → (y ≡ x) ⊎ FailsAfter is_up is_sound holds kept_of block_of made began saw opens remaining contents told wanted names failure None was now x y
-  fails_held began H names was now x y failure (inl (err, same, besides)) = inl besides
+      → ((y ≡ x) × (now ≡ was)) ⊎ FailsAfter is_up is_sound holds kept_of block_of made began saw opens remaining contents told wanted names failure None was
+      now x y
+  fails_held began H names was now x y failure (inl (err, same, besides)) = inl (besides, same)
   fails_held began H names was now x y failure (inr (all, held, at, Ok due, (bare, is, so, noted), inl (fails, same))) = absurd (err_ok _ _ (sym fails))
   fails_held began H names was now x y failure (inr (all, held, at, Ok due, (bare, is, so, noted), inr (did, done, inl same))) =
       inr (all, held, bare, inr (due, at, is, so, inl same, noted))
   fails_held began H names was now x y failure (inr (all, held, at, Ok due, (bare, is, so, noted), inr (did, done, inr (by, part)))) =
       inr (all, held, bare, inr (due, at, is, so,
       inr (subst (λ (d : DueSwap). IsExchangedInPart made began saw d.swap at now) (sym (ok_same due did (Ok due) done)) part), noted))
-  fails_held began H names was now x y failure (inr (all, held, at, Err e, inl same, ends)) = inl same
+  fails_held began H names was now x y failure (inr (all, held, at, Err e, inl (same, stays), inl (fails, after))) = inl (same, after ∙ stays)
+  fails_held began H names was now x y failure (inr (all, held, at, Err e, inl same, inr (did, done, ends))) = absurd (err_ok _ _ done)
   fails_held began H names was now x y failure (inr (all, held, at, Err e, inr (bare, cut), inr (did, done, ends))) = absurd (err_ok _ _ done)
   fails_held began H names was now x y failure (inr (all, held, at, Err e, inr (bare, cut), inl (fails, same))) =
       inr (all, held, bare, inl (subst (λ (f : Failure). FailsSo is_up is_sound holds kept_of block_of made saw opens remaining contents told wanted
@@ -297,9 +299,19 @@ module _ {F K R W : Type 0} (is_up is_sound : K → Type 0) (holds : K → List 
   after_all : (began : F → F → Call → Type 0) (records names apart ended : List (String Global)) (earlier : Option Swap) (was at now : F) (x y : Session R W)
       (failure : Failure)
       → AreAtPlaces saw was records [] names → apart ≡ names → AreApart apart → ended ≡ names → AreFinished made saw told wanted.short ended was at earlier
-      → (y ≡ x) ⊎ FailsAfter is_up is_sound holds kept_of block_of made began saw opens remaining contents told wanted names failure earlier at now x y
+      → ((y ≡ x) × (now ≡ at))
+      ⊎ FailsAfter is_up is_sound holds kept_of block_of made began saw opens remaining contents told wanted names failure earlier at now x y
       → HasNotReplaced is_up is_sound holds kept_of block_of made began saw opens remaining contents told wanted records failure was now x y
-  after_all began records names apart ended earlier was at now x y failure places apart_is are_apart ended_is finished (inl same) = inl same
+  after_all began records names apart ended earlier was at now x y failure places apart_is are_apart ended_is finished (inl (same, stays)) = inl (
+    same,
+    inr (
+      names,
+      places,
+      subst (λ (l : List (String Global)). AreApart l) apart_is are_apart,
+      inr (earlier, subst (λ (z : F). AreFinished made saw told wanted.short names was z earlier) (sym stays)
+          (subst (λ (l : List (String Global)). AreFinished made saw told wanted.short l was at earlier) ended_is finished)),
+    ),
+  )
   after_all began records names apart ended earlier was at now x y failure places apart_is are_apart ended_is finished (inr fails) = inr (
     names,
     at,
@@ -309,6 +321,31 @@ module _ {F K R W : Type 0} (is_up is_sound : K → Type 0) (holds : K → List 
     subst (λ (l : List (String Global)). AreFinished made saw told wanted.short l was at earlier) ended_is finished,
     fails,
   )
+
+  -- An earlier exchange fails, or the files cannot be read then.
+  pub stopped : {T : Type 0} (began : F → F → Call → Type 0) (records names apart ended : List (String Global)) (was now : F) (x : Session R W)
+      (why : Failure) (did : Result (Option Swap) Failure) (r : Result T Failure) → did ≡ Err why → AreAtPlaces saw was records [] names → apart ≡ names
+      → AreApart apart → ended ≡ names → OnErr did (AreFinishedInPart made began saw told wanted.short ended was now)
+      → IfErr r (λ e. HasNotReplaced is_up is_sound holds kept_of block_of made began saw opens remaining contents told wanted records e was now x x)
+  stopped began records names apart ended was now x why did (Ok it) fails places apart_is are_apart ended_is left = tt
+  stopped began records names apart ended was now x why did (Err e) fails places apart_is are_apart ended_is left = inl (
+    refl,
+    inr (
+      names,
+      places,
+      subst (λ (l : List (String Global)). AreApart l) apart_is are_apart,
+      inl (subst (λ (l : List (String Global)). AreFinishedInPart made began saw told wanted.short l was now) ended_is
+          (subst (λ (d : Result (Option Swap) Failure). OnErr d (AreFinishedInPart made began saw told wanted.short ended was now)) fails left)),
+    ),
+  )
+
+  pub unread : {T : Type 0} (began : F → F → Call → Type 0) (records names apart ended : List (String Global)) (earlier : Option Swap) (was at : F)
+      (x : Session R W) (r : Result T Failure) → AreAtPlaces saw was records [] names → apart ≡ names → AreApart apart → ended ≡ names
+      → AreFinished made saw told wanted.short ended was at earlier
+      → IfErr r (λ e. HasNotReplaced is_up is_sound holds kept_of block_of made began saw opens remaining contents told wanted records e was at x x)
+  unread began records names apart ended earlier was at x (Ok it) places apart_is are_apart ended_is finished = tt
+  unread began records names apart ended earlier was at x (Err e) places apart_is are_apart ended_is finished =
+      after_all began records names apart ended earlier was at at x x e places apart_is are_apart ended_is finished (inl (refl, refl))
 
   pub not_replaced : {T : Type 0} (began : F → F → Call → Type 0) (H : Type 0) (records names apart ended meant held : List (String Global))
       (earlier : Option Swap) (was at now : F) (x y : Session R W) (why : Failure) (done : Result DueSwap Failure) (r : Result T Failure)

@@ -166,7 +166,8 @@ module _ {K : Type 0} (is_up is_sound : K → Type 0) (holds : K → List Record
   giving_cut kept_of block a table come failure keep x before mid y first was (inr (pass, now, at, gave, inl same)) =
       between a x before at y first
       (gives is_up is_sound holds a table come gave.filled now before mid at was
-      (subst (λ b. PutsByRules is_up is_sound holds b gave.filled now mid at) gave.of (runs_so is_up is_sound holds block Survey gave.filled now mid at pass.ended gave.runs gave.ran gave.ended)))
+      (subst (λ b. PutsByRules is_up is_sound holds b gave.filled now mid at) gave.of
+          (runs_so is_up is_sound holds block Survey gave.filled now mid at pass.ended gave.runs gave.ran gave.ended)))
       (inr (asks_none at y same))
 
 module _ {F K R W : Type 0} (is_up is_sound : K → Type 0) (holds : K → List Record → Type 0) (kept_of : K → Kept) (block_of : K → Block)
@@ -285,7 +286,7 @@ module _ {F K R W : Type 0} (is_up is_sound : K → Type 0) (holds : K → List 
   pub failed : (records : List (String Global)) (failure : Failure) (was now : F) (x y : Session R W) → wanted.short < 64
       → HasNotReplaced is_up is_sound holds kept_of block_of made began saw opens remaining contents told wanted records failure was now x y
       → FailsByRules is_up is_sound holds wanted.short (talk_of remaining contents x.driver) (talk_of remaining contents y.driver)
-  failed records failure was now x y short (inl same) =
+  failed records failure was now x y short (inl (same, stops)) =
       inr (inl (inl (asks_none _ _ (ap (λ (s : Session R W). talk_of remaining contents s.driver) same))))
   failed records failure was now x y short (inr (names, at, earlier, places, apart, finished, fails)) =
       fails_after names failure earlier at now x y short fails

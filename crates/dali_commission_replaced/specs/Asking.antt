@@ -48,7 +48,7 @@ use Rattle.dali_commission_tasks.specs.declared.tasks.Replacement.{Replacement}
 use Rattle.dali_commission_replaced.specs.declared.replacing.DueSwap.{DueSwap}
 use Rattle.dali_commission_replaced.specs.Cut.{HasNotAskedOthers, IsGivingCut, IsNotInFirst}
 use Rattle.dali_commission_replaced.specs.Cut.{IsNotHeardOf}
-use Rattle.dali_commission_replaced.specs.Finishing.{AreFinished}
+use Rattle.dali_commission_replaced.specs.Finishing.{AreFinished, AreFinishedInPart}
 use Rattle.dali_commission_replaced.specs.Replacing.{IsGiver, HasCome, AreAsideIf, AreAtPlaces}
 use Rattle.dali_commission_replaced.specs.Replacing.{AreApart, AreUnannounced, IsDue}
 use Rattle.dali_commission_replaced.specs.Tellings.{ConfirmedTold}
@@ -479,6 +479,17 @@ FailsAfter is_up is_sound holds kept_of block_of made began saw opens remaining 
     × IsNotConfirmedBy saw remaining contents wanted.short wanted.missing.items was (names_of swap)
     failure x y
 
+-- Nothing is put if the files cannot be told apart, an earlier exchange fails, or they are not had.
+abbrev pub StopsBefore : {F : Type 0} (made began : F → F → Call → Type 0) → (F → Look → Type 0)
+    → (Said → Type 0) → ℕ → List (String Global) → F → F → Type 0
+StopsBefore {F = F} made began saw told a records was now =
+    (now ≡ was)
+    ⊎ ((names : List (String Global))
+    × AreAtPlaces saw was records [] names
+    × AreApart names
+    × (AreFinishedInPart made began saw told a names was now
+    ⊎ ((earlier : Option Swap) × AreFinished made saw told a names was now earlier)))
+
 abbrev pub HasNotReplaced : {F K R W : Type 0} (is_up is_sound : K → Type 0)
     (holds : K → List Record → Type 0) (kept_of : K → Kept) (block_of : K → Block)
     (made began : F → F → Call → Type 0)
@@ -487,7 +498,7 @@ abbrev pub HasNotReplaced : {F K R W : Type 0} (is_up is_sound : K → Type 0)
     → List (String Global) → Failure → F → F → Session R W → Session R W → Type 0
 HasNotReplaced {F = F} is_up is_sound holds kept_of block_of made began saw opens remaining contents
     told wanted records failure was now x y =
-    (y ≡ x)
+    ((y ≡ x) × StopsBefore made began saw told wanted.short records was now)
     ⊎ ((names : List (String Global))
     × (at : F)
     × (earlier : Option Swap)

@@ -33,7 +33,7 @@ Dues is_up is_sound holds kept_of block_of made saw opens remaining contents tol
     × (y.report ≡ record x.report { frames = lines_of y.driver })
 Dues is_up is_sound holds kept_of block_of made saw opens remaining contents told wanted names all
     was at x y (Err failure) =
-    (y ≡ x)
+    ((y ≡ x) × (at ≡ was))
     ⊎ (AreUnannounced saw was names
     × FailsSo is_up is_sound holds kept_of block_of made saw opens remaining contents told wanted
     names all failure was x y)

@@ -1,15 +1,16 @@
 //! An exchange of files that an earlier call has begun is brought to its end, and the bus is asked what is there.
 
-ghost use Rattle.std.specs.Prelude.{◌≡◌, ◌⊎◌, IfOk, IfErr, OnOk};
+ghost use Rattle.std.specs.Prelude.{◌≡◌, ◌⊎◌, IfOk, IfErr, OnOk, OnErr};
 ghost use Rattle.dali_commissioning.specs.Drivers.{talk_of, has_heard, lines_of};
 ghost use Rattle.dali_replacement.specs.Permit.{confirmed_at, confirmed_random};
 ghost use Rattle.dali_replacement.specs.Swapping.{address_of, names_of};
 ghost use Rattle.dali_replacement.specs.Tables.{AreGiven};
 ghost use Rattle.dali_commission_said.specs.Failures.{although_exchanged};
-ghost use Rattle.dali_commission_stores.specs.Settled.{IsSettled, IsAlone};
+ghost use Rattle.dali_commission_stores.specs.Settled.{IsSettled, IsSettledInPart, IsAlone};
 ghost use Rattle.dali_commission_replaced.specs.Asking.{HasConfirmed, HasNotConfirmed, IsConfirmed};
 ghost use Rattle.dali_commission_replaced.specs.Asking.{IsNotConfirmedBy};
-ghost use Rattle.dali_commission_replaced.specs.Finishing.{IsFinished, IsFoundSo, AreFinished};
+ghost use Rattle.dali_commission_replaced.specs.Finishing.{IsFinished, IsFoundSo, IsFoundInPart, AreFinished};
+ghost use Rattle.dali_commission_replaced.specs.Finishing.{AreFinishedInPart};
 ghost use Rattle.dali_commission_replaced.specs.Tellings.{FinishTold};
 
 use crate::confirming::Asking;
@@ -31,6 +32,7 @@ fn finishes<S: Voice + AllocGlobal, F: Stores>(
     ensures settled { IfOk result (IsSettled F.made F.saw swap.now stores.old stores.new) }
     ensures alone { OnOk result (IsAlone F.saw swap.now stores.old) }
     ensures told { IfOk result (λ is_done. FinishTold (S.told system.now) (address_of swap.now) is_done) }
+    ensures left { OnErr result (IsSettledInPart F.made F.began F.saw swap.now stores.old stores.new) }
 {
     let is_done = settle(system, stores, swap)?;
     if is_done {
@@ -49,7 +51,8 @@ fn finished<S: Voice + AllocGlobal, F: Stores>(
     swap: Swap,
     short: Short,
 ) -> Result<Option<Swap>, Failure>
-    ensures { IfOk result (IsFinished F.made F.saw (S.told system.now) short swap stores.old stores.new) }
+    ensures finished { IfOk result (IsFinished F.made F.saw (S.told system.now) short swap stores.old stores.new) }
+    ensures left { OnErr result (IsSettledInPart F.made F.began F.saw swap stores.old stores.new) }
 {
     if finishes(system, stores, &swap)? && swap.short() == short {
         Ok(Some(swap))
@@ -65,7 +68,8 @@ fn finishes_found<S: Voice + AllocGlobal, F: Stores>(
     name: &str,
     short: Short,
 ) -> Result<Option<Swap>, Failure>
-    ensures { IfOk result (IsFoundSo F.made F.saw (S.told system.now) short name.now stores.old stores.new) }
+    ensures finished { IfOk result (IsFoundSo F.made F.saw (S.told system.now) short name.now stores.old stores.new) }
+    ensures left { OnErr result (IsFoundInPart F.made F.began F.saw name.now stores.old stores.new) }
 {
     match or_say(system, name, found(system.alloc(), stores, name))? {
         Some(swap) => finished(system, stores, swap, short),
@@ -80,7 +84,10 @@ pub(crate) fn exchanged<S: Voice + AllocGlobal, F: Stores>(
     names: &[String],
     short: Short,
 ) -> Result<Option<Swap>, Failure>
-    ensures { IfOk result (AreFinished F.made F.saw (S.told system.now) short names.now stores.old stores.new) }
+    ensures finished { IfOk result (AreFinished F.made F.saw (S.told system.now) short names.now stores.old
+        stores.new) }
+    ensures left { OnErr result (AreFinishedInPart F.made F.began F.saw (S.told system.now) short names.now stores.old
+        stores.new) }
 {
     let [name, more @ ..] = names else {
         return Ok(None);

@@ -6,7 +6,7 @@ pub returns-in_err-are_unannounced : goal.returns-in_err-are_unannounced
 returns-in_err-are_unannounced g c =
     unput g.F.Open.Keep.is_up g.F.Open.Keep.is_sound g.F.Open.Keep.holds g.F.Open.Keep.kept g.F.Open.Keep.block g.F.Stores.made g.F.Stores.saw
     g.F.Stores.opens g.R.Read.remaining g.W.Write.contents _ _ _ _ _ _ _ _ c.from_residual.result
-    c.from_residual.ensures.0 refl
+    c.from_residual.ensures.0 refl refl
 
 pub returns : goal.returns
 returns g c =
