@@ -1,4 +1,4 @@
-use Rattle.std.proofs.Common.{◌≡◌, ◌∙◌, ◌≤◌, ◌-◌, arith, ℕ, List, [], ◌∷◌, ◌++◌, length, take, drop, subst, sym, ap, inr}
+use Rattle.std.proofs.Common.{◌≡◌, ◌∙◌, ◌≤◌, ◌-◌, arith, ℕ, List, [], ◌∷◌, ◌++◌, length, take, drop, subst, sym, ap, inl, inr}
 use Rattle.std.proofs.{Common.Option, Common.Some, Common.Result, Common.Ok, Common.Err, Common.OnOk, Common.OnErr}
 use Rattle.std.proofs.{Math.ListN.get_or, lemmas.List.take_all}
 use Rattle.std.specs.Prelude.{IfOk, string_bytes}
