@@ -4,8 +4,8 @@ ghost use Rattle.std.specs.Prelude.{◌≡◌, ℕ, ◌<◌, false};
 ghost use Rattle.dali_commissioning.specs.Drivers.{Talk};
 ghost use Rattle.dali_commissioning.specs.Rules.{AsksByRules};
 ghost use Rattle.dali_commission_program.specs.Nothing.{PutsSomething, PutsOrLooks, RefusedPutsSomething};
-ghost use Rattle.dali_commission_program.specs.Ruled.{PutsSo, PutsOver, AsksOnBus};
-ghost use Rattle.dali_commission_replaced.specs.Ruled.{ReplacesByRules};
+ghost use Rattle.dali_commission_program.specs.Ruled.{PutsSo, FailsSo, PutsOver, AsksOnBus};
+ghost use Rattle.dali_commission_replaced.specs.Ruled.{ReplacesByRules, FailsByRules};
 ghost use Rattle.dali_commission_program.specs.Ruled.{WhatWasPutKeepsPromise, WhatASurveyLeavesKeepsRules};
 ghost use Rattle.dali_commission_program.specs.Ruled.{WhatAStartLeavesKeepsRules};
 ghost use Rattle.dali_commission_said.specs.Tables.{only};
@@ -52,7 +52,8 @@ where
 /// a sender that keeps to its scripts, by the records of its store, and none is of another. A check and `identify` need
 /// no records. A run does that mends nothing, over the store that was opened for it. A replacement does over the store
 /// for the one short address, and over records in memory while it looks for the new gear. What a run put that did not
-/// begin, or was left while its machines ran, keeps the rules too (`survey_left`, `start_left`).
+/// begin, or was left while its machines ran, keeps the rules too (`survey_left`, `start_left`). So does what a
+/// replacement put that failed, unless the talk shows a fault or a lost question (`replace_failed`).
 ///
 /// To mend and to clear need what the rules forbid.
 pub fn tasks_keep_the_rules_of_the_page<S, F, R, W>(_system: &S)
@@ -75,6 +76,10 @@ where
         F.Open.kept F.Open.block F.made F.began F.saw F.opens R.remaining W.contents (S.told _system.now)
         (S.wrote _system.now) (task.Replace wanted)
         (λ was records x y. ReplacesByRules F.Open.is_up F.Open.is_sound F.Open.holds wanted.short x y) }
+    ensures replace_failed { (wanted : Replacement) → wanted.short < 64 → FailsSo F.Open.is_up F.Open.is_sound
+        F.Open.holds F.Open.kept F.Open.block F.made F.began F.saw F.opens R.remaining W.contents (S.told _system.now)
+        (S.wrote _system.now) (task.Replace wanted)
+        (λ x y. FailsByRules F.Open.is_up F.Open.is_sound F.Open.holds wanted.short x y) }
     ensures survey_left { WhatASurveyLeavesKeepsRules F.Open.is_up F.Open.is_sound F.Open.holds }
     ensures start_left { WhatAStartLeavesKeepsRules F.Open.is_up F.Open.is_sound F.Open.holds }
 {}
