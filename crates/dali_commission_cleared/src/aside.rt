@@ -55,7 +55,8 @@ impl<'a, S: Voice + AllocGlobal, F: Stores, D> Holder<F, D> for Setting<'a, S> {
     ghost dues = { λ setting _ from to _ _ result. (to ≡ from) × IfOk result (λ due.
         (due.0.now ≡ setting.names.now) × (due.1.now ≡ setting.records.now)) };
 
-    ghost ends = { λ _ from to due number. AreRenamed F.made F.saw due.1.now due.0.now number from to };
+    ghost ends = { λ _ from to due result. IfOk result (λ number.
+        AreRenamed F.made F.saw due.1.now due.0.now number from to) };
 
     fn refused(&self, name: &str, failure: Failure) -> Failure {
         say_refused(self.system, name, failure)

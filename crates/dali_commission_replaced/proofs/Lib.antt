@@ -1,4 +1,5 @@
 mod Cut
+pub mod Failed
 pub mod Finished
 pub mod Given
 pub mod Ruled

@@ -5,4 +5,4 @@ mod confirming;
 mod finishing;
 mod replacing;
 
-pub use replacing::{note_first, replaces};
+pub use replacing::replaces;

@@ -46,7 +46,7 @@ pub trait Holder<F, D>: Drop {
 
     /// What it does once the files are closed, from the places before to those after it, if this was due and that came
     /// of it.
-    ghost ends: { Self → F → F → Self.Due → Self.Out → Type 0 };
+    ghost ends: { Self → F → F → Self.Due → Result Self.Out Failure → Type 0 };
 
     /// Does what is to be done with the records, in the order of their names, and with their files open.
     fn take(&mut self, stores: &mut F, all: &[Kept], beside: &mut D) -> Result<Self::Due, Failure>
@@ -54,7 +54,7 @@ pub trait Holder<F, D>: Drop {
 
     /// Does what is to be done then, if that ended well, with each file closed and nothing beside it.
     fn then(self, stores: &mut F, due: Self::Due) -> Result<Self::Out, Failure>
-        ensures { IfOk result (ends self stores.old stores.new due) };
+        ensures { ends self stores.old stores.new due result };
 }
 
 /// Who does something alone, in these places.

@@ -42,8 +42,8 @@ pub returns-clause-replace : goal.returns-clause-replace
 returns-clause-replace g c wanted records others was now x y (random, replaces) nothing = (
   random,
   replaced g.F.Open.Keep.is_up g.F.Open.Keep.is_sound g.F.Open.Keep.holds g.F.Open.Keep.kept g.F.Open.Keep.block g.F.Stores.made g.F.Stores.saw
-      g.F.Stores.opens g.R.Read.remaining g.W.Write.contents (g.S.Voice.told c.args._system.now) wanted records random was now x.driver
-      y.driver replaces nothing,
+      g.F.Stores.opens g.R.Read.remaining g.W.Write.contents (g.S.Voice.told c.args._system.now) wanted records random was now x
+      y replaces nothing,
 )
 
 pub returns-clause-refused : goal.returns-clause-refused
