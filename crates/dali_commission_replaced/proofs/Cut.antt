@@ -207,7 +207,7 @@ module _ {F K R W : Type 0} (is_up is_sound : K → Type 0) (holds : K → List 
   unput names all was at x y (Err e) fails same = inl same
 
   dues_so : (names : List (String Global)) (all : List Kept) (was at : F) (x y : DriverLink R W) (r : Result DueSwap Failure) → AreUnannounced saw was names
-      → IfOk r (IsDue wanted.short names all)
+      → IfOk r (IsDue saw at wanted.short names all)
       → IfOk r (λ due. HasReplacedSo is_up is_sound holds kept_of block_of made saw opens remaining contents told wanted names all due.news.items
       (confirmed_random due.confirmed) was at x y)
       → IfErr r (λ e. (y ≡ x) ⊎ HasNotReplacedSo is_up is_sound holds kept_of block_of made saw opens remaining contents told wanted names all e was x y)
@@ -217,7 +217,7 @@ module _ {F K R W : Type 0} (is_up is_sound : K → Type 0) (holds : K → List 
   dues_so names all was at x y (Err e) bare is so (inr cut) = inr (bare, cut)
 
   pub dues_noted : (names : List (String Global)) (all : List Kept) (was at : F) (x y : DriverLink R W) (gave r : Result DueSwap Failure) → r ≡ gave
-      → AreUnannounced saw was names → IfOk gave (IsDue wanted.short names all)
+      → AreUnannounced saw was names → IfOk gave (IsDue saw at wanted.short names all)
       → IfOk gave (λ due. HasReplacedSo is_up is_sound holds kept_of block_of made saw opens remaining contents told wanted names all due.news.items
       (confirmed_random due.confirmed) was at x y)
       → IfErr gave (λ e. (y ≡ x)

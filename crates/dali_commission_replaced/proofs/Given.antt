@@ -8,12 +8,12 @@ use Rattle.dali_commissioning.specs.declared.{conducting.PassEnd.PassEnd, driver
 use Rattle.dali_commissioning.specs.{Census.IsAnswered, Drivers.{Talk, talk_of}, Runs.IsRead}
 use Rattle.dali_replacement.specs.declared.come.Come.{Come}
 use Rattle.dali_replacement.specs.{Permit.{HasGiven, HasLooked, alone, confirmed_at, confirmed_random}, Tables.{IsComplete, IsGathered, Keeps, Reserves}}
-use Rattle.dali_replacement.specs.{declared.swapping.Swap.Swap, Swapping.{address_of, texts_of}}
+use Rattle.dali_replacement.specs.{declared.swapping.Swap.Swap, Swapping.{address_of, number_of, texts_of}}
 use Rattle.dali_commission_said.specs.declared.{failure.Failure.Failure, progress.Aim.Aim, said.Said.Said}
 use Rattle.dali_commission_said.specs.{Reports.heard_of, Said.{AreTold, WhySaid, heard_said}}
 use Rattle.dali_commission_tasks.specs.declared.tasks.Replacement.{Replacement}
 use Rattle.dali_commission_stores.specs.{Calls.{Call, Look, Read, AreMade}, declared.records.Seen.Seen, Settling.new_at}
-use Rattle.dali_commission_stores.specs.{Lent.{IsLent, IsOpened, IsHeld, AreRead, lent_calls}, Settled.IsExchanged}
+use Rattle.dali_commission_stores.specs.{Keeping.AreFree, Lent.{IsLent, IsOpened, IsHeld, AreRead, lent_calls}, Settled.IsExchanged}
 use Rattle.dali_commission_asked.specs.{declared.ending.AtLast.AtLast, Ending.{HasAskedAtLast, pass_at_last}}
 use Rattle.dali_commission_replaced.specs.{declared.replacing.DueSwap.DueSwap, Due.Dues}
 use Rattle.dali_commission_replaced.specs.Replacing.{IsGiver, IsDue, HasCome, AreAsideIf, AreAtPlaces, AreApart, AreUnannounced}
@@ -183,7 +183,7 @@ module _ {F K R W : Type 0} (is_up is_sound : K → Type 0) (holds : K → List 
   replaced_anew names was now x y copies out read (inl (err, same, besides)) says = absurd (false≢true err)
   replaced_anew names was now x y copies out read (inr (all, held, at, Err e, dues, (by, due, is, ends))) says = absurd (err_ok e due is)
   replaced_anew names was now x y copies out read
-      (inr (all, held, at, Ok did, (bare, (swap, short, files, (n, complete)), so), (by, due, is, (exchanged, same)))) says =
+      (inr (all, held, at, Ok did, (bare, (swap, short, files, (n, complete), free), so), (by, due, is, (exchanged, same)))) says =
       let same_due : did ≡ out = ok_same did due (Ok did) is ∙ sym same in (
         subst (λ (d : DueSwap). confirmed_at d.confirmed ≡ wanted.short) same_due short,
         record {
@@ -200,6 +200,7 @@ module _ {F K R W : Type 0} (is_up is_sound : K → Type 0) (holds : K → List 
           swap = out.swap;
           of = subst (λ (d : DueSwap). address_of d.swap ≡ wanted.short) same_due swap;
           files = subst (λ (d : DueSwap). texts_of d.swap ≡ map string_bytes names) same_due files;
+          free = subst (λ (d : DueSwap). AreFree saw at [] (number_of d.swap) names) same_due free;
           count = n;
           complete = subst (λ (d : DueSwap). IsComplete n wanted.short (confirmed_random d.confirmed) all d.news.items) same_due complete;
           exchanged = subst (λ (d : DueSwap). IsExchanged made saw d.swap at now) (sym same) exchanged;
