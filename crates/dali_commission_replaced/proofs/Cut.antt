@@ -206,7 +206,7 @@ module _ {F K R W : Type 0} (is_up is_sound : K → Type 0) (holds : K → List 
   without_first names all came others was was_so after x before y why did (Ok it) plan none fails is asked same of cut = tt
   without_first names all came others was was_so after x before y why did (Err e) plan none fails is asked same of cut =
       gives_cut {T = Kept} names all was was_so after x before y (Err e) plan none asked
-          (inl (first_of names plan.giver wanted.short plan.come came plan.table others plan.stores
+      (inl (first_of names plan.giver wanted.short plan.come came plan.table others plan.stores
       e before y same of
       (subst (λ f. HasNotGivenFirst is_up is_sound holds kept_of block_of saw opens remaining contents told wanted.short came others names
       plan.giver plan.stores f before y) (sym fails)
@@ -249,7 +249,7 @@ module _ {F K R W : Type 0} (is_up is_sound : K → Type 0) (holds : K → List 
   unput names all was at x y (Err e) fails same stays = inl (same, stays)
 
   dues_so : (names : List (String Global)) (all : List Kept) (was at : F) (x y : DriverLink R W) (before mid after : Report) (r : Result DueSwap Failure)
-      → AreUnannounced saw was names → IfOk r (IsDue wanted.short names all)
+      → AreUnannounced saw was names → IfOk r (IsDue saw at wanted.short names all)
       → IfOk r (λ due. HasReplacedSo is_up is_sound holds kept_of block_of made saw opens remaining contents told wanted names all due.news.items
       (confirmed_random due.confirmed) was at x y) → IfOk r (λ _. mid ≡ before)
       → IfErr r (λ e. ((y ≡ x) × (mid ≡ before))
@@ -265,7 +265,7 @@ module _ {F K R W : Type 0} (is_up is_sound : K → Type 0) (holds : K → List 
 
   pub dues_noted : (names : List (String Global)) (all : List Kept) (was at : F) (x y : DriverLink R W) (before mid after : Report)
       (gave r : Result DueSwap Failure) → r ≡ gave
-      → AreUnannounced saw was names → IfOk gave (IsDue wanted.short names all)
+      → AreUnannounced saw was names → IfOk gave (IsDue saw at wanted.short names all)
       → IfOk gave (λ due. HasReplacedSo is_up is_sound holds kept_of block_of made saw opens remaining contents told wanted names all due.news.items
       (confirmed_random due.confirmed) was at x y) → IfOk gave (λ _. mid ≡ before)
       → IfErr gave (λ e. ((y ≡ x) × (mid ≡ before))
@@ -287,14 +287,30 @@ module _ {F K R W : Type 0} (is_up is_sound : K → Type 0) (holds : K → List 
   fails_held began H names was now x y failure (inr (all, held, at, Ok due, (bare, is, so, noted), inr (did, done, inl same))) =
       inr (all, held, bare, inr (due, at, is, so, inl same, noted))
   fails_held began H names was now x y failure (inr (all, held, at, Ok due, (bare, is, so, noted), inr (did, done, inr (by, part)))) =
-      inr (all, held, bare, inr (due, at, is, so,
-      inr (subst (λ (d : DueSwap). IsExchangedInPart made began saw d.swap at now) (sym (ok_same due did (Ok due) done)) part), noted))
+      inr (
+        all,
+        held,
+        bare,
+        inr (
+          due,
+          at,
+          is,
+          so,
+          inr (subst (λ (d : DueSwap). IsExchangedInPart made began saw d.swap at now) (sym (ok_same due did (Ok due) done)) part),
+          noted,
+        ),
+      )
   fails_held began H names was now x y failure (inr (all, held, at, Err e, inl (same, stays), inl (fails, after))) = inl (same, after ∙ stays)
   fails_held began H names was now x y failure (inr (all, held, at, Err e, inl same, inr (did, done, ends))) = absurd (err_ok _ _ done)
   fails_held began H names was now x y failure (inr (all, held, at, Err e, inr (bare, cut), inr (did, done, ends))) = absurd (err_ok _ _ done)
   fails_held began H names was now x y failure (inr (all, held, at, Err e, inr (bare, cut), inl (fails, same))) =
-      inr (all, held, bare, inl (subst (λ (f : Failure). FailsSo is_up is_sound holds kept_of block_of made saw opens remaining contents told wanted
-      names all f was x y) (err_same failure e (Err e) fails) cut))
+      inr (
+        all,
+        held,
+        bare,
+        inl (subst (λ (f : Failure). FailsSo is_up is_sound holds kept_of block_of made saw opens remaining contents told wanted
+            names all f was x y) (err_same failure e (Err e) fails) cut),
+      )
 
   after_all : (began : F → F → Call → Type 0) (records names apart ended : List (String Global)) (earlier : Option Swap) (was at now : F) (x y : Session R W)
       (failure : Failure)
@@ -308,8 +324,11 @@ module _ {F K R W : Type 0} (is_up is_sound : K → Type 0) (holds : K → List 
       names,
       places,
       subst (λ (l : List (String Global)). AreApart l) apart_is are_apart,
-      inr (earlier, subst (λ (z : F). AreFinished made saw told wanted.short names was z earlier) (sym stays)
-          (subst (λ (l : List (String Global)). AreFinished made saw told wanted.short l was at earlier) ended_is finished)),
+      inr (
+        earlier,
+        subst (λ (z : F). AreFinished made saw told wanted.short names was z earlier) (sym stays)
+            (subst (λ (l : List (String Global)). AreFinished made saw told wanted.short l was at earlier) ended_is finished),
+      ),
     ),
   )
   after_all began records names apart ended earlier was at now x y failure places apart_is are_apart ended_is finished (inr fails) = inr (

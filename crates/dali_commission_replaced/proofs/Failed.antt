@@ -126,12 +126,17 @@ module _ {K : Type 0} (is_up is_sound : K → Type 0) (holds : K → List Record
   left_after : (a : ℕ) (table : Kept) (come : Come) (reason : CommissionFault) (was keep : K) (x mid y : Talk) → HasLooked a table come x mid
       → LeavesByRules is_up is_sound holds (alone a) reason was keep mid y → BreaksOff is_up is_sound holds a x y
   left_after a table Nowhere reason was keep x mid y (random, (k, has, of, (why, at, left, then))) it =
-      inr (inr (was, keep, reason, inr (
-        table,
-        at,
-        looks a table k (Some random) why x at has of left,
-        ask_leaves is_up is_sound holds (alone a) reason was keep at mid y (beside random false at mid then) it,
-      )))
+      inr (inr (
+        was,
+        keep,
+        reason,
+        inr (
+          table,
+          at,
+          looks a table k (Some random) why x at has of left,
+          ask_leaves is_up is_sound holds (alone a) reason was keep at mid y (beside random false at mid then) it,
+        ),
+      ))
   left_after a table (Reserved r) reason was keep x mid y same it =
       inr (inr (was, keep, reason, inl (ask_leaves is_up is_sound holds (alone a) reason was keep x mid y (asks_none x mid same) it)))
   left_after a table (Given r) reason was keep x mid y same it =
@@ -167,7 +172,7 @@ module _ {K : Type 0} (is_up is_sound : K → Type 0) (holds : K → List Record
       between a x before at y first
       (gives is_up is_sound holds a table come gave.filled now before mid at was
       (subst (λ b. PutsByRules is_up is_sound holds b gave.filled now mid at) gave.of
-          (runs_so is_up is_sound holds block Survey gave.filled now mid at pass.ended gave.runs gave.ran gave.ended)))
+      (runs_so is_up is_sound holds block Survey gave.filled now mid at pass.ended gave.runs gave.ran gave.ended)))
       (inr (asks_none at y same))
 
 module _ {F K R W : Type 0} (is_up is_sound : K → Type 0) (holds : K → List Record → Type 0) (kept_of : K → Kept) (block_of : K → Block)

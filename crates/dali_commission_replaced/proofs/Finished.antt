@@ -5,7 +5,7 @@ use Rattle.std.specs.Prelude.{IfOk, string_bytes}
 use Rattle.std.specs.declared.{alloc.Global.Global, string.String.String}
 use Rattle.dali_replacement.specs.declared.swapping.Swap.{Swap}
 use Rattle.dali_commission_said.specs.declared.{failure.Failure.Failure, said.Said.Said}
-use Rattle.dali_commission_stores.specs.{Calls.{Call, Look, Lies}, Seen.IsFound, Settled.IsSettledInPart}
+use Rattle.dali_commission_stores.specs.{Calls.{Call, Look}, Seen.{IsFound, LiesOnLine}, Settled.IsSettledInPart}
 use Rattle.dali_commission_replaced.specs.{Finishing.{IsFinished, IsFoundSo, IsFoundInPart, AreFinished, AreFinishedInPart, last_of}, Replacing.AreAtPlaces}
 
 -- a first name and the others
@@ -60,17 +60,21 @@ pub more_in_part : {F : Type 0} {T : Type 0} (made began : F → F → Call → 
 more_in_part made began saw told a at name all more x z y why first did (Ok it) fails begins is one left = tt
 more_in_part made began saw told a at name all more x z y why first did (Err e) fails begins is one left =
     subst (λ (l : List (String Global)). AreFinishedInPart made began saw told a l x y) (sym begins)
-    (inr (z, first, subst (λ (n : List ℕ). IsFoundSo made saw told a n x z first) is one,
-    subst (λ (d : Result (Option Swap) Failure). OnErr d (AreFinishedInPart made began saw told a more z y)) fails left))
+    (inr (
+      z,
+      first,
+      subst (λ (n : List ℕ). IsFoundSo made saw told a n x z first) is one,
+      subst (λ (d : Result (Option Swap) Failure). OnErr d (AreFinishedInPart made began saw told a more z y)) fails left,
+    ))
 
 -- a place more
 pub more_placed : {F E : Type 0} (saw : F → Look → Type 0) (x : F) (at : List ℕ) (name place : String Global) (all more before mid after : List (String Global))
-    (r : Result (Unit {0}) E) → all ≡ name ∷ more → at ≡ string_bytes name → saw x (Lies at (string_bytes place)) → mid ≡ before ++ place ∷ []
+    (r : Result (Unit {0}) E) → all ≡ name ∷ more → at ≡ string_bytes name → LiesOnLine saw x at (string_bytes place) → mid ≡ before ++ place ∷ []
     → OnOk r (AreAtPlaces saw x more mid after) → OnOk r (AreAtPlaces saw x all before after)
 more_placed saw x at name place all more before mid after (Ok done) begins is lies adds rest =
     subst (λ (l : List (String Global)). AreAtPlaces saw x l before after) (sym begins) (
       place,
-      subst (λ (a : List ℕ). saw x (Lies a (string_bytes place))) is lies,
+      subst (λ (a : List ℕ). LiesOnLine saw x a (string_bytes place)) is lies,
       subst (λ (m : List (String Global)). AreAtPlaces saw x more m after) adds rest,
     )
 more_placed saw x at name place all more before mid after (Err e) begins is lies adds rest = tt

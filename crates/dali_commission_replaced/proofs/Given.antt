@@ -8,12 +8,12 @@ use Rattle.dali_commissioning.specs.declared.{conducting.PassEnd.PassEnd, driver
 use Rattle.dali_commissioning.specs.{Census.IsAnswered, Drivers.{Talk, talk_of, lines_of}, Runs.IsRead}
 use Rattle.dali_replacement.specs.declared.come.Come.{Come}
 use Rattle.dali_replacement.specs.{Permit.{HasGiven, HasLooked, alone, confirmed_at, confirmed_random}, Tables.{IsComplete, IsGathered}}
-use Rattle.dali_replacement.specs.{declared.swapping.Swap.Swap, Swapping.{address_of, names_of, texts_of}}
+use Rattle.dali_replacement.specs.{declared.swapping.Swap.Swap, Swapping.{address_of, number_of, texts_of}}
 use Rattle.dali_commission_said.specs.declared.{failure.Failure.Failure, progress.Aim.Aim, report.{Report.Report, Session.Session}, said.Said.Said}
 use Rattle.dali_commission_said.specs.{Reports.heard_of, Said.{AreTold, WhySaid, heard_said}}
 use Rattle.dali_commission_tasks.specs.declared.tasks.Replacement.{Replacement}
 use Rattle.dali_commission_stores.specs.{Calls.{Call, Look, Read}, declared.records.Seen.Seen, Settling.new_at}
-use Rattle.dali_commission_stores.specs.{Lent.{IsLent, IsOpened, IsHeld, AreRead}, Settled.IsExchanged}
+use Rattle.dali_commission_stores.specs.{Keeping.AreFree, Lent.{IsLent, IsOpened, IsHeld, AreRead}, Settled.IsExchanged}
 use Rattle.dali_commission_asked.specs.{declared.ending.AtLast.AtLast, Ending.{HasAskedAtLast, pass_at_last}}
 use Rattle.dali_commission_replaced.specs.{declared.replacing.DueSwap.DueSwap, Due.{Dues, EndsDue}}
 use Rattle.dali_commission_replaced.specs.Replacing.{IsGiver, HasCome, AreAsideIf, AreAtPlaces, AreApart}
@@ -183,30 +183,31 @@ module _ {F K R W : Type 0} (is_up is_sound : K → Type 0) (holds : K → List 
   replaced_anew began names was now x y noted copies out read (inl (err, same, besides)) says notes = absurd (false≢true err)
   replaced_anew began names was now x y noted copies out read (inr (all, held, at, Err e, dues, (by, due, is, ends))) says notes = absurd (err_ok e due is)
   replaced_anew began names was now x y noted copies out read
-      (inr (all, held, at, Ok did, (bare, (swap, short, files, (n, complete)), so, counts), (by, due, is, (exchanged, same)))) says notes =
+      (inr (all, held, at, Ok did, (bare, (swap, short, files, (n, complete), free), so, counts), (by, due, is, (exchanged, same)))) says notes =
       let same_due : did ≡ out = ok_same did due (Ok did) is ∙ sym same in
-        record {
-          copies = copies;
-          read = read;
-          all = all;
-          held = held;
-          bare = bare;
-          news = out.news.items;
-          at = at;
-          replaced =
-              subst (λ (d : DueSwap). HasReplacedSo is_up is_sound holds kept_of block_of made saw opens remaining contents told wanted names all
-              d.news.items (confirmed_random d.confirmed) was at x.driver y.driver) same_due so;
-          swap = out.swap;
-          of = subst (λ (d : DueSwap). address_of d.swap ≡ wanted.short) same_due swap;
-          files = subst (λ (d : DueSwap). texts_of d.swap ≡ map string_bytes names) same_due files;
-          count = n;
-          complete = subst (λ (d : DueSwap). IsComplete n wanted.short (confirmed_random d.confirmed) all d.news.items) same_due complete;
-          exchanged = subst (λ (d : DueSwap). IsExchanged made saw d.swap at now) (sym same) exchanged;
-          says =
-              subst (λ (a : ℕ). ConfirmedTold told a (confirmed_random out.confirmed) out.news.items)
-              (subst (λ (d : DueSwap). confirmed_at d.confirmed ≡ wanted.short) same_due short) says;
-          reports = notes ∙ ap (λ (r : Report). first_table out.news.items r) counts;
-        }
+      record {
+        copies = copies;
+        read = read;
+        all = all;
+        held = held;
+        bare = bare;
+        news = out.news.items;
+        at = at;
+        replaced =
+            subst (λ (d : DueSwap). HasReplacedSo is_up is_sound holds kept_of block_of made saw opens remaining contents told wanted names all
+            d.news.items (confirmed_random d.confirmed) was at x.driver y.driver) same_due so;
+        swap = out.swap;
+        of = subst (λ (d : DueSwap). address_of d.swap ≡ wanted.short) same_due swap;
+        files = subst (λ (d : DueSwap). texts_of d.swap ≡ map string_bytes names) same_due files;
+        free = subst (λ (d : DueSwap). AreFree saw at [] (number_of d.swap) names) same_due free;
+        count = n;
+        complete = subst (λ (d : DueSwap). IsComplete n wanted.short (confirmed_random d.confirmed) all d.news.items) same_due complete;
+        exchanged = subst (λ (d : DueSwap). IsExchanged made saw d.swap at now) (sym same) exchanged;
+        says =
+            subst (λ (a : ℕ). ConfirmedTold told a (confirmed_random out.confirmed) out.news.items)
+            (subst (λ (d : DueSwap). confirmed_at d.confirmed ≡ wanted.short) same_due short) says;
+        reports = notes ∙ ap (λ (r : Report). first_table out.news.items r) counts;
+      }
 
   -- and so it is of the files of records, if no exchange of an earlier call was brought to its end
   pub replaced : (began : F → F → Call → Type 0) {H : Type 0} (records names apart ended copied meant held : List (String Global)) (earlier : Option Swap)

@@ -138,7 +138,7 @@ pub replaced : {F K R W : Type 0} (is_up is_sound : K → Type 0) (holds : K →
 replaced is_up is_sound holds kept_of block_of made saw opens remaining contents told wanted records random was now x y short
     (names, at, Some swap, lies, apart, settled, (same, is, notes)) =
     inl (confirmed saw told wanted.short wanted.missing.items at (names_of swap) random (talk_of remaining contents x.driver)
-        (talk_of remaining contents y.driver)
+    (talk_of remaining contents y.driver)
     short is)
 replaced is_up is_sound holds kept_of block_of made saw opens remaining contents told wanted records random was now x y short
     (names, at, None, lies, apart, settled, anew) =

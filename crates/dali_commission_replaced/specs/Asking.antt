@@ -25,7 +25,7 @@ use Rattle.dali_replacement.specs.Come.{may_be_heard}
 use Rattle.dali_replacement.specs.Permit.{HasGiven, HasLooked, IsNotLooked, alone}
 use Rattle.dali_replacement.specs.Permit.{confirmed_random}
 use Rattle.dali_replacement.specs.Standing.{AreHeard, AreThere}
-use Rattle.dali_replacement.specs.Swapping.{address_of, names_of, texts_of}
+use Rattle.dali_replacement.specs.Swapping.{address_of, number_of, names_of, texts_of}
 use Rattle.dali_replacement.specs.declared.swapping.Swap.{Swap}
 use Rattle.dali_replacement.specs.Tables.{AreGiven, IsGathered, IsComplete, Keeps, Reserves}
 use Rattle.dali_commission_said.specs.declared.failure.Failure.{Failure}
@@ -39,6 +39,7 @@ use Rattle.dali_commission_said.specs.Reports.{heard_of, table_of}
 use Rattle.dali_commission_said.specs.Said.{AreTold, WhySaid, heard_said}
 use Rattle.dali_commission_stores.specs.Calls.{Call, Look, Read, AreMade}
 use Rattle.dali_commission_stores.specs.declared.records.Seen.{Seen}
+use Rattle.dali_commission_stores.specs.Keeping.{AreFree}
 use Rattle.dali_commission_stores.specs.Lent.{IsLent, IsOpened, AreRead, lent_calls}
 use Rattle.dali_commission_stores.specs.Settled.{IsExchanged, IsExchangedInPart}
 use Rattle.dali_commission_stores.specs.Settling.{new_at}
@@ -379,6 +380,7 @@ pub record HasReplacedAnew {F K R W : Type 0} (is_up is_sound : K → Type 0)
   pub swap : Swap
   pub of : address_of swap ≡ wanted.short
   pub files : texts_of swap ≡ map string_bytes names
+  pub free : AreFree saw at [] (number_of swap) names
   pub count : ℕ
   pub complete : IsComplete count wanted.short random all news
   pub exchanged : IsExchanged made saw swap at now

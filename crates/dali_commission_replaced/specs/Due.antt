@@ -27,7 +27,7 @@ abbrev pub Dues : {F K R W : Type 0} (is_up is_sound : K → Type 0)
 Dues is_up is_sound holds kept_of block_of made saw opens remaining contents told wanted names all
     was at x y (Ok due) =
     AreUnannounced saw was names
-    × IsDue wanted.short names all due
+    × IsDue saw at wanted.short names all due
     × HasReplacedSo is_up is_sound holds kept_of block_of made saw opens remaining contents told
     wanted names all due.news.items (confirmed_random due.confirmed) was at x.driver y.driver
     × (y.report ≡ record x.report { frames = lines_of y.driver })

@@ -5,7 +5,7 @@ ghost use Rattle.std.specs.Prelude.{string_bytes, IfSome, Ok, Err};
 ghost use Rattle.dali_script.specs.Records.{HasAddress};
 ghost use Rattle.dali_replacement.specs.Permit.{others_at};
 ghost use Rattle.dali_replacement.specs.Tables.{IsGathered, Lacks};
-ghost use Rattle.dali_commission_stores.specs.Calls.{AreMade, Lies, Read};
+ghost use Rattle.dali_commission_stores.specs.Calls.{AreMade, Read};
 ghost use Rattle.dali_commission_replaced.specs.Replacing.{IsAnywhere, IsGiver, IsDue, AreAside, AreAsideIf, HasCome};
 ghost use Rattle.dali_commission_replaced.specs.Replacing.{AreAtPlaces, IsApart, IsApartFrom, AreApart};
 ghost use Rattle.dali_commission_replaced.specs.Replacing.{AreUnannounced};
@@ -25,12 +25,12 @@ use crate::confirming::Asking;
 use crate::finishing::{confirms, exchanged};
 use dali_commission_asked::ask_at_last;
 use dali_commission_said::{
-    Failure, Manner, Progress, REFUSED, Report, Said, Session, StoreFault, Voice, add, ended_as,
-    ended_said, failure_of, or_say, own_rows, say, say_all, say_refused,
+    Failure, Manner, Progress, REFUSED, Report, Said, Session, Voice, add, ended_as, ended_said,
+    failure_of, or_say, own_rows, say, say_all, say_refused,
 };
 use dali_commission_stores::{
     Borrower, Filling, Holder, Reading, Stores, exchange, found, free_number, kept, lend,
-    lend_copy, put_one_aside, read, read_all, say_kept,
+    lend_copy, place_of, put_one_aside, read, read_all, say_kept,
 };
 use dali_commission_tasks::Replacement;
 use dali_commissioning::{DriverLink, Ended, outside};
@@ -396,7 +396,7 @@ impl<S: Voice + AllocGlobal> Replacing<'_, S> {
         others: OthersThere,
         first: &Kept,
     ) -> Result<DueSwap, Failure>
-        ensures due { IfOk result (IsDue (others_at others) self.now.names.now all.now) }
+        ensures due { IfOk result (IsDue F.saw stores.new (others_at others) self.now.names.now all.now) }
         ensures last { IfOk result (λ due. IsAnswered (others_at others)
             (heard.Random (confirmed_random due.confirmed)) (talk_of R.remaining W.contents driver.old)
             (talk_of R.remaining W.contents driver.new)) }
@@ -430,7 +430,8 @@ impl<S: Voice + AllocGlobal> Replacing<'_, S> {
         all: &[Kept],
         report: &mut Report,
     ) -> Result<DueSwap, Failure>
-        ensures due { IfOk result (IsDue self.now.asking.now.wanted.now.short self.now.names.now all.now) }
+        ensures due { IfOk result (IsDue F.saw stores.new self.now.asking.now.wanted.now.short self.now.names.now
+            all.now) }
         ensures replaced { IfOk result (λ due. HasReplacedSo F.Open.is_up F.Open.is_sound F.Open.holds F.Open.kept
             F.Open.block F.made
             F.saw F.opens R.remaining W.contents (S.told self.now.asking.now.system.now) self.now.asking.now.wanted.now
@@ -569,22 +570,6 @@ impl<S: Voice + AllocGlobal, F: Stores, R: Read, W: Write> Holder<F, Session<R, 
         exchange(self.asking.system, stores, &due.swap)?;
         Ok(due)
     }
-}
-
-/// Where a file of this name lies.
-fn place_of<S: Voice + AllocGlobal, F: Stores>(
-    system: &S,
-    stores: &F,
-    name: &str,
-) -> Result<String, Failure>
-    ensures { IfOk result (λ at. F.saw stores.now (Lies name.now (string_bytes at))) }
-{
-    let place = or_say(system, name, stores.place_of(system.alloc(), name))?;
-    // A journal names each file on a line.
-    if place.contains("\n") {
-        return Err(say_refused(system, name, Failure::Store(StoreFault::CannotOpen)));
-    }
-    Ok(place)
 }
 
 /// Adds where the files of these names lie.

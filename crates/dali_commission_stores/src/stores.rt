@@ -80,8 +80,8 @@ pub trait Actor<F>: Drop {
 /// there, which other programs may change.
 pub trait Stores: Sized {
     ghost use Rattle.dali_script.specs.Records.{Kept};
-    ghost use Rattle.dali_commission_stores.specs.Calls.{Call, Wrote, Renamed, Likened, Removed, Opened, Closed};
-    ghost use Rattle.dali_commission_stores.specs.Calls.{Look, Has, Text, Lies};
+    ghost use Rattle.dali_commission_stores.specs.Calls.{Call, Wrote, Renamed, Likened, Removed, Synced};
+    ghost use Rattle.dali_commission_stores.specs.Calls.{Opened, Closed, Look, Has, Text, Lies};
     ghost use Rattle.std.specs.Prelude.{false};
     ghost use Rattle.dali_commission_stores.specs.Lent.{Copies, IsHeld, ActsAlone};
     ghost use Rattle.dali_commission_stores.specs.declared.records.Seen.{Seen};
@@ -170,4 +170,9 @@ pub trait Stores: Sized {
     fn remove(&mut self, alloc: Global, name: &str) -> Result<(), Failure>
         ensures made { OnOk result (made self.old self.new (Removed name.now)) }
         ensures began { OnErr result (began self.old self.new (Removed name.now)) };
+
+    /// What was done in the folder of this name is on the disk then.
+    fn sync(&mut self, name: &str) -> Result<(), Failure>
+        ensures made { OnOk result (made self.old self.new (Synced name.now)) }
+        ensures began { OnErr result (began self.old self.new (Synced name.now)) };
 }
