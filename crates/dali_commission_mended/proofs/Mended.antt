@@ -84,7 +84,7 @@ module _ {S : Type 0} (is_up is_sound : S → Type 0) (holds : S → List Record
         → IsGathered 64 (tables ++ before ∷ []) table → AreOf table.enrolled [] (tables ++ before ∷ [])
         → EndsMend is_up is_sound holds kept_of at table before others wanted ms opened mid (talk_of remaining contents x.driver)
         (talk_of remaining contents y.driver) (lines_of y.driver) came ended → result ≡ Err why → IsUnread why
-            → y.report ≡ record x.report { frames = lines_of y.driver }
+        → y.report ≡ record x.report { frames = lines_of y.driver }
         → MendsOver is_up is_sound holds kept_of block remaining contents told others wanted tables was keep x y result
     unread_over others wanted tables was opened mid keep x y result before table ms came ended why same reads gathered of_these mends fails unread
         reports =

@@ -420,7 +420,10 @@ fn say_lost<S: Voice>(system: &S, at: u8, erased: &[Random24], table: &Kept)
     let [random, more @ ..] = erased else {
         return;
     };
-    say(system, &Said::HasLost(at, *random, table.enrolled_for(*random)));
+    say(
+        system,
+        &Said::HasLost(at, *random, table.enrolled_for(*random)),
+    );
     say_lost(system, at, more, table);
 }
 

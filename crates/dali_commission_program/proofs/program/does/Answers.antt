@@ -7,7 +7,7 @@ use Rattle.dali_commission_program.proofs.program.does.Goals as goal
 pub returns-in-Run : goal.returns-in-Run
 returns-in-Run g c =
     run_done g.F.Open.Keep.is_up g.F.Open.Keep.is_sound g.F.Open.Keep.holds g.F.Open.Keep.kept g.F.Open.Keep.block g.F.Stores.made g.F.Stores.began
-        g.F.Stores.saw
+    g.F.Stores.saw
     g.F.Stores.opens g.R.Read.remaining g.W.Write.contents (g.S.Voice.told c.args.system.now) (g.S.Writes.wrote c.args.system.now)
     c.args.asked.now.records.items _ c.as_slice-others.result.now c.args.asked.now.others.items c.args.stores.now c.lend.new.stores
     c.args.session.now c.lend.new.beside c.lend.result
@@ -17,7 +17,7 @@ returns-in-Run g c =
 pub returns-in-Check : goal.returns-in-Check
 returns-in-Check g c =
     check_done g.F.Open.Keep.is_up g.F.Open.Keep.is_sound g.F.Open.Keep.holds g.F.Open.Keep.kept g.F.Open.Keep.block g.F.Stores.made g.F.Stores.began
-        g.F.Stores.saw
+    g.F.Stores.saw
     g.F.Stores.opens g.R.Read.remaining g.W.Write.contents (g.S.Voice.told c.args.system.now) (g.S.Writes.wrote c.args.system.now)
     c.args.asked.now.records.items _ c.as_slice-others.result.now c.args.asked.now.others.items c.args.stores.now c.args.stores.now
     c.args.session.now c.checks.new.session c.checks.result
