@@ -605,8 +605,9 @@ class Bus:
             return {"command": command.name, "address": command.address}
         if self.left_alone or any(what in MENDS for what, _ in self.strangers.values()):
             return {"command": "mend", "address": None}
-        if len(self.missing) == 1:
-            return {"command": "replace", "address": next(iter(self.missing))[0]}
+        gone = [it["address"] for it in self.table if (it["address"], it["random"]) in self.missing]
+        if len(gone) == 1:
+            return {"command": "replace", "address": gone[0]}
         is_known = self.checked is not None or command is not None
         for name, is_due in (
             ("run", self.unaddressed or not self.table), ("check", self.silent or self.strangers), ("walk", not self.is_placed()), ("check", not is_known)

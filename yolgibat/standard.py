@@ -25,7 +25,15 @@ def fill() -> None:
 def say(text: str, end: str = "\n") -> None:
     """Says something on standard error. If that is gone, as with a closed terminal, all goes on."""
     with contextlib.suppress(OSError):
-        os.write(2, os.fsencode(f"{translated(text)}{end}"))
+        os.write(2, encoded(f"{translated(text)}{end}"))
+
+
+def encoded(text: str) -> bytes:
+    """A text as a terminal takes it. Of what that has no sign for stands a question mark."""
+    try:
+        return os.fsencode(text)
+    except UnicodeEncodeError:
+        return text.encode(sys.getfilesystemencoding(), "replace")
 
 
 def translated(text: str) -> str:
@@ -50,7 +58,10 @@ class Below:
         if not self.is_able:
             say(text, "")
             return
-        width, height = (it or 80 for it in os.get_terminal_size(2))
+        try:
+            width, height = (it or 80 for it in os.get_terminal_size(2))
+        except OSError:
+            width, height = 80, 24
         up, below = f"\x1b[{self.shown}F\x1b[J" if self.shown else "", [fitting(it, width - 1) for it in lines[1 - height :]]
         say(f"{up}{translated(text)}" + "".join(f"{it}\n" for it in below), "")
         self.shown = len(below)
