@@ -10,6 +10,9 @@ import re
 import sys
 import time
 
+if sys.version_info < (3, 10):
+    sys.exit("Python %d.%d is too old: version 3.10 or later is needed" % sys.version_info[:2])
+
 SILENCE, DAMAGED, DESTROYED, LAPSED = "silence", "damaged", "destroyed", "lapsed"
 PUT = re.compile(rb"put ([1-5]) ([0-9A-Fa-f]{4}) (ask|tell)(?: pair ([12]))?\n")
 # The longest line is read so far that a message can show where it went wrong.

@@ -28,6 +28,8 @@ PATIENCE, DEAD = 2_000_000, 500_000
 # What is said of a bus that is low all the time, or that each transfer drives while it should leave it at rest.
 LOW = "the bus has no power: it is low all the time. Or --inverted-in or --inverted-out is wrong"
 PULLED = {False: "each transfer drives the bus low: --inverted-out is wrong", True: "each transfer drives the bus low: --inverted-out and --inverted-in are wrong"}
+# What is said of silence. If both levels are wrong, the bus is low all the time, and the own frame is read back all the same.
+NO_ANSWER = ": no gear answers. Or --inverted-in and --inverted-out are both wrong, as if one is given in place of the other"
 # How many transfers a test of the port makes.
 MANY = 50
 # The least and the greatest length in bytes by which the clock is measured, besides those of frames; by which part it may be wrong.
@@ -203,4 +205,5 @@ def rows(found: float, ear: Ear, driver: Driver) -> typing.Iterator[tuple[bool, 
         longer = [one - other for one, other in zip(heard.runs(wave), wave.runs(wave))]
         for what, them in (("low", longer[::2]), ("high", longer[1::2])):
             yield True, f"each {what} is {min(them)} to {max(them)} samples longer than it was sent"
-        yield True, f"QUERY CONTROL GEAR PRESENT hears {driver.told(heard, len(wave.edges), True)}"
+        told = driver.told(heard, len(wave.edges), True)
+        yield True, f"QUERY CONTROL GEAR PRESENT hears {told}{NO_ANSWER if told == lines.SILENCE else ''}"

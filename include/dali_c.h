@@ -25,7 +25,7 @@ extern "C" {
 #define DALI_VERSION "0.3.0"
 /* The version of the structs and calls: it counts up with each change of one of them. Compare it with dali_c_version()
  * once, before the first call. */
-#define DALI_C_VERSION 105
+#define DALI_C_VERSION 106
 
 /* How many short addresses there are, and the most records of a kind. */
 #define DALI_ADDRESSES 64
@@ -284,7 +284,7 @@ struct dali_ascent {
 /* Of a machine: what a survey has counted, and whose visits failed. */
 struct dali_tally {
     uint8_t draws;
-    uint8_t is_silent;
+    uint8_t rolls;
     uint8_t calls;
     uint8_t askings;
     uint8_t is_missed;
@@ -388,28 +388,34 @@ struct dali_heard {
 struct dali_port {
     uint64_t called;
     uint64_t edge;
-    uint64_t first;
-    uint64_t randomise;
-    uint64_t draws;
     uint64_t since;
     uint64_t agreed;
     uint64_t driven;
+    uint64_t first;
+    uint64_t randomise;
+    uint64_t draws;
     uint32_t drawn;
+    uint32_t bits;
+    uint32_t lasted;
+    uint32_t elapsed;
+    uint8_t phase;
+    uint8_t is_low;
+    uint8_t is_powerless;
+    uint8_t is_over;
+    uint8_t at_half;
     uint8_t priority;
     uint8_t address_byte;
     uint8_t opcode_byte;
     uint8_t asks;
     uint8_t half;
-    uint8_t at_half;
-    uint8_t phase;
-    uint8_t is_low;
-    uint8_t is_powerless;
-    uint8_t is_over;
     uint8_t has_first;
     uint8_t has_randomise;
     uint8_t has_draws;
-    struct dali_window window;
-    struct dali_receiver receiver;
+    uint8_t reading;
+    uint8_t was_low;
+    uint8_t heard;
+    uint8_t byte;
+    uint8_t has_pulse;
 };
 
 /* What each call of a port tells. */
@@ -541,8 +547,8 @@ uint8_t dali_receiver_time(struct dali_receiver *receiver, uint32_t micros, stru
  * `now` is the time of a clock that counts microseconds in 32 bits, of an edge the time that was captured. Read the time,
  * hand over each edge that was captured up to it, and then that time. After each call drive what `event` says.
  *
- * Each call answers DALI_BAD_ARGUMENT if `port` is none, or a level is neither 0 nor 1; DALI_BACKWARDS if `now` is before
- * the time of the last call. Call once in 35 minutes at least. */
+ * Each call answers DALI_BAD_ARGUMENT if a level is neither 0 nor 1; DALI_BACKWARDS if `now` is before the time of the last
+ * call. Any bytes are a port, so begin with dali_port_new. Call once in 35 minutes at least. */
 
 /* A port at power-up, or if nothing is known of the bus but its level. */
 uint8_t dali_port_new(struct dali_port *port, uint8_t is_low, uint32_t now, struct dali_event *event);

@@ -36,7 +36,7 @@ import sys
 import time
 import typing
 
-from yolgibat import command, commanding, joining, places, programs, standard
+from yolgibat import command, commanding, joining, places, programs, standard, texts
 
 # The file.
 
@@ -144,9 +144,10 @@ def parsed(file: pathlib.Path) -> tuple[str, dict[str, typing.Any]]:
     try:
         import tomllib
     except ModuleNotFoundError:
-        raise Wrong("`building` wants Python 3.11 or later, as no other command does") from None
+        raise Wrong("`building` wants Python 3.11 or later, to read its file") from None
     try:
-        text = file.read_text(encoding="utf-8")
+        raw = file.read_bytes()
+        text = raw.decode("utf-8-sig")
         for number, line in enumerate(text.splitlines(), 1):
             if '"""' in line or "'''" in line:
                 raise Wrong(f"{file}: line {number}: a text stands on one line")
@@ -155,8 +156,10 @@ def parsed(file: pathlib.Path) -> tuple[str, dict[str, typing.Any]]:
         at = AT.search(str(why))
         line = at[1] if at and at[1] else len(text.splitlines())
         raise Wrong(f"{file}: line {line}: {AT.sub('', str(why))}") from why
-    except (OSError, UnicodeDecodeError) as why:
-        raise Wrong(f"{file}: {getattr(why, 'strerror', None) or why}") from why
+    except UnicodeDecodeError as why:
+        raise Wrong(f"{file}: line {raw[: why.start].count(10) + 1}: this is no UTF-8: save the file in this encoding") from why
+    except OSError as why:
+        raise Wrong(f"{file}: {why.strerror}") from why
 
 
 def records_of(table: Table, block: str) -> list[tuple[str, str]]:
@@ -217,8 +220,7 @@ def read(file: pathlib.Path) -> Building:
         for key, value in [("name", entry.name), ("driver", shlex.join(shlex.split(entry.title))), *kept]:
             if (key, value) in taken:
                 other = taken[key, value]
-                what = "its files would be those of" if key == "records" else "it is that of"
-                raise table.wrong(key, f"{what} the bus '{other}'")
+                raise table.wrong(key, f"its files would be those of the bus '{other}'" if key == "records" else f"it is that of the bus '{other}'")
             taken[key, value] = entry.name
         entries.append(entry)
     return Building(name, entries)
@@ -231,9 +233,11 @@ LOOKS, SAYS = 0.5, 20
 BAD_WORD, NO_RECORDS = 2, 5
 # How often a bus is run that gives up: the next run goes on from its records.
 TRIES = 3
-# What a bus is said to do before it is begun; a last line before which the program, or the driver, may say why; and lines that say no cause.
-WAITS, ENDED = "waits", re.compile(r"ended: .*|.*: (the driver ended with status|signal \d+ ended the driver) .*")
-CAUSELESS = re.compile(r"asking .*|\d+ gear were enrolled, .*|error: line \d+ of the driver: end of input")
+
+
+def spoken(name: str, /, **parts: object) -> str:
+    """A text in the language that is spoken."""
+    return texts.text(name, standard.spoken, **parts)
 
 
 class Taken(Exception):
@@ -246,7 +250,7 @@ def alone(records: str) -> collections.abc.Iterator[int]:
     try:
         number = os.open(f"{records}.page", os.O_RDWR | os.O_CREAT, 0o600)
     except OSError as why:
-        raise Taken(f"error: {records}.page: {why.strerror}") from why
+        raise Taken(f"error: {os.path.abspath(records)}.page: {why.strerror}") from why
     try:
         fcntl.flock(number, fcntl.LOCK_EX | fcntl.LOCK_NB)
         yield number
@@ -256,23 +260,17 @@ def alone(records: str) -> collections.abc.Iterator[int]:
         os.close(number)
 
 
-def said_of(command: commanding.Command) -> str | None:
-    """What a command said last; with the line before it if that says why it ended so."""
-    said = [it for it in command.said if not CAUSELESS.fullmatch(it)]
-    return "; ".join(said[-2 if ENDED.fullmatch(said[-1]) else -1 :]) if said else None
-
-
 class Job:
     """What is done on one bus, by each of its controllers in turn; a replacement and a clearing are of all of them at once.
 
     reports   what the program wrote of each, as an object
     statuses  what the end of each counts for
-    said      what was said last, if one did not end well
+    said      the lines that were said last, if one did not end well
     """
 
     def __init__(self, entry: Entry, command: str, program: str, address: int | None = None, missing: typing.Sequence[int] = ()) -> None:
         self.entry, self.command, self.program, self.address, self.missing = entry, command, program, address, missing
-        self.reports, self.statuses, self.said, self.rows = [], [], None, []
+        self.reports, self.statuses, self.said, self.rows = [], [], [], []
         self.bus, self.stopped = None, None
 
     def unknown(self) -> list[int]:
@@ -292,17 +290,17 @@ class Job:
                 with alone(self.entry.records[0][0]) as kept:
                     self.command_all(kept)
         except (Taken, places.Unreadable) as why:
-            self.end(NO_RECORDS, str(why))
+            self.end(NO_RECORDS, [str(why)])
         except OSError as why:
-            self.end(NO_RECORDS, f"error: {why.filename or self.entry.name}: {why.strerror}")
+            self.end(NO_RECORDS, [f"error: {why.filename or self.entry.name}: {why.strerror}"])
 
-    def end(self, status: int, said: str | None) -> None:
+    def end(self, status: int, said: list[str]) -> None:
         self.statuses.append(status)
         self.said = said if status else self.said
 
     def command_all(self, kept: int) -> None:
         if self.stopped:
-            self.end(commanding.STOPPED + self.stopped, "not begun")
+            self.end(commanding.STOPPED + self.stopped, ["not begun"])
             return
         site, *more = self.entry.sites(self.program)
         bus = self.bus = commanding.Bus(site, (kept,), more)
@@ -319,9 +317,9 @@ class Job:
         with bus.lock:
             for it, status in zip((*bus.command.before, bus.command), bus.command.statuses()):
                 self.reports.append(it.report)
-                self.end(status, said_of(it))
+                self.end(status, it.reason())
             if self.stopped and len(self.reports) <= len(more) and self.command in commanding.IN_TURN:
-                self.end(commanding.STOPPED + self.stopped, "stopped")
+                self.end(commanding.STOPPED + self.stopped, ["stopped"])
 
     def stop(self, number: int) -> None:
         """Stops what goes on, since a signal came."""
@@ -335,7 +333,7 @@ class Job:
         for file, _ in self.entry.records:
             words = [self.program, "table", "--json", "--records", file]
             done = subprocess.run(words, stdin=subprocess.DEVNULL, capture_output=True)
-            self.end(done.returncode, done.stderr.decode(errors="replace").strip().rpartition("\n")[2])
+            self.end(done.returncode, done.stderr.decode(errors="replace").splitlines()[-1:])
             rows |= {it["address"]: it for it in json.loads(done.stdout)} if done.returncode == 0 else {}
         names = places.read(places.file_of(self.entry.records[0][0]))
         self.rows = places.rows([rows[it] for it in sorted(rows)], names)
@@ -344,16 +342,14 @@ class Job:
         """The worst one."""
         return max(self.statuses, default=0)
 
-    def far(self) -> str:
-        """How far it is, in a few words."""
+    def far(self) -> list[str]:
+        """How far it is, in a few words each."""
         if not (self.bus and self.bus.command):
-            return WAITS
+            return [f"{self.entry.name}: {spoken('building:waits')}"]
         with self.bus.lock:
             command = self.bus.command
-            told = command.followed().state()
-        phase = {"asking": f"asking short address {told['at']}", "searching": "searching", "giving": f"giving short address {told['at']}"}
-        parts = [phase.get(told["phase"], "begins"), f"{command.found or 0} gear found" if self.command == "run" else "", f"{told['frames']} frames"]
-        return ", ".join(filter(None, [f"pass {told['pass']}" if self.command == "run" and told["pass"] else "", *parts]))
+            first, *parts = command.followed().far(self.command, time.time() - command.begun, standard.spoken)
+        return [f"{self.entry.name}: {first}", *parts]
 
     def came_to(self) -> str:
         """What it came to, in a line."""
@@ -362,13 +358,13 @@ class Job:
         ends = [(status, one.get("status") == status, at, one["end"]) for at, (one, status) in enumerate(zip(self.reports, self.statuses)) if "end" in one]
         parts = [max(ends)[-1]] if ends else []
         # A run whose driver is gone reports no table.
-        parts += [f"{len(report['table'])} in the table"] if report.get("table") else []
-        for key, word in (("left_alone", "left alone"), ("missing", "missing"), ("strangers", "not as recorded")):
+        parts += [spoken("came:table", count=len(report["table"]))] if report.get("table") else []
+        for key in ("left_alone", "missing", "strangers"):
             them = sorted({it["address"] if isinstance(it, dict) else it for one in self.reports for it in one.get(key, [])})
-            parts += [f"{word}: {' '.join(map(str, them))}"] if them else []
-        parts += ["gear without short address are there"] if any(it.get("unaddressed") for it in self.reports) else []
-        parts += [f"status {self.status()}"] if self.status() else []
-        parts += [self.said] if self.status() not in commanding.WHOLE and self.said else []
+            parts += [spoken(f"came:{key}", list=" ".join(map(str, them)))] if them else []
+        parts += [spoken("came:unaddressed")] if any(it.get("unaddressed") for it in self.reports) else []
+        parts += [spoken("came:status", status=self.status())] if self.status() else []
+        parts += map(standard.translated, self.said if self.status() not in commanding.WHOLE else [])
         return "; ".join(parts)
 
 
@@ -376,31 +372,24 @@ class View:
     """Shows how far all are: on a terminal a line each, over and over; else a line of each that has ended."""
 
     def __init__(self, jobs: list[Job]) -> None:
-        self.jobs, self.is_terminal, self.shown, self.told, self.looks = jobs, os.isatty(2), 0, set(), 0
+        self.jobs, self.below, self.told, self.looks = jobs, standard.Below(), set(), 0
 
-    def summary(self, ended: set[Job]) -> str:
+    def summary(self, ended: set[Job]) -> list[str]:
         at_work = [it for it in self.jobs if it not in ended and it.bus]
-        found = sum(it.bus.command.found or 0 for it in at_work if it.bus.command)
-        return f"{len(ended)} of {len(self.jobs)} buses have ended, {len(at_work)} at work" + (f", {found} gear found there" if found else "")
+        found = sum(it.bus.command.followed().found or 0 for it in at_work if it.bus.command)
+        parts = [spoken("building:ended", ended=len(ended), count=len(self.jobs)), spoken("building:at-work", busy=len(at_work))]
+        return parts + ([spoken("building:found-there", found=found)] if found else [])
 
     def show(self, ended: set[Job], is_last: bool = False) -> None:
+        """Who has ended stays on the terminal, and below it is said how far the others are, as many as there is room for."""
         fresh = [it for it in self.jobs if it in ended and it not in self.told]
         self.told |= set(fresh)
         lines = [f"{it.entry.name}: {text}" for it in fresh if (text := it.came_to())]
-        if self.is_terminal:
-            self.rewrite(lines, [] if is_last else [f"{it.entry.name}: {it.far()}" for it in self.jobs if it not in ended and it.bus], ended)
-        else:
-            self.looks += 1
-            lines += [self.summary(ended)] if not is_last and self.looks % int(SAYS / LOOKS) == 0 else []
-            standard.say("".join(f"{it}\n" for it in lines), "")
-
-    def rewrite(self, lines: list[str], going: list[str], ended: set[Job]) -> None:
-        """On a terminal: who has ended stays there, and below it is said how far the others are, as many as there is room for."""
-        width, height = (it or 80 for it in os.get_terminal_size(2))
-        below = [it[: width - 1] for it in (*going[: max(1, height - 2)], self.summary(ended))] if going else []
-        up = f"\x1b[{self.shown}F" if self.shown else ""
-        standard.say(f"{up}\x1b[J" + "".join(f"{it}\n" for it in [*lines, *below]), "")
-        self.shown = len(below)
+        self.looks += 1
+        if not self.below.is_able and not is_last and self.looks % int(SAYS / LOOKS) == 0:
+            lines.append(", ".join(self.summary(ended)))
+        going = [] if is_last else [far for it in self.jobs if it not in ended and it.bus and (far := it.far())]
+        self.below.say("".join(f"{it}\n" for it in lines), [*going, self.summary(ended)] if going else [])
 
 
 def work(jobs: list[Job], at_once: int, came: list[int]) -> None:
@@ -520,10 +509,10 @@ def written(
 ) -> str:
     """What is written on standard output."""
     if chosen.csv:
-        return places.as_csv(table_of(jobs), "bus")
+        return places.as_csv(table_of(jobs), "bus", is_german=chosen.csv == command.GERMAN)
     if chosen.json:
         kinds = {"table": {"table": table_of(jobs)}, "check": {"changes": changes}}
-        them = [{"bus": it.entry.name, "status": it.status(), "said": it.said, "reports": it.reports} for it in jobs]
+        them = [{"bus": it.entry.name, "status": it.status(), "said": "; ".join(it.said) or None, "reports": it.reports} for it in jobs]
         return json.dumps({"building": building.name, "status": status, "buses": them, **kinds.get(chosen.task, {})}, ensure_ascii=False) + "\n"
     if chosen.task == "table":
         return "".join(f"{it['bus']} {line}\n" for it in table_of(jobs) for line in places.as_text([it]).splitlines())
@@ -559,7 +548,10 @@ def serve(chosen: argparse.Namespace, building: Building, program: str) -> int:
 
 def main(chosen: argparse.Namespace) -> int:
     if not chosen.building.is_file():
-        raise command.BadWord(f"--building {chosen.building}: there is no such file")
+        what = "this is a folder, and a file is wanted" if chosen.building.is_dir() else "there is no such file"
+        raise command.BadWord(f"--building {chosen.building}: {what}")
+    # A link stands for the file where that lies.
+    chosen.building = chosen.building.resolve()
     os.chdir(chosen.building.parent)
     building = read(pathlib.Path(chosen.building.name))
     entries = building.chosen(chosen.bus)
@@ -584,5 +576,5 @@ def main(chosen: argparse.Namespace) -> int:
     changes, kept = compare(jobs, chosen.since) if chosen.since and not came else (None, 0)
     status = 128 + came[0] if came else max(kept, *(it.status() for it in jobs))
     well = sum(not it.status() for it in jobs)
-    standard.say(f"{building.name}: {well} of {len(jobs)} buses ended well, after {time.monotonic() - begun:.0f} s")
+    standard.say(spoken("building:ended-well", name=building.name, well=well, count=len(jobs), seconds=f"{time.monotonic() - begun:.0f}"))
     return standard.ended(written(chosen, building, jobs, changes, status), status)

@@ -8,7 +8,7 @@ import re
 import typing
 import zlib
 
-from yolgibat import ROOT, building, commanding, places, serving, texts
+from yolgibat import ROOT, building, command, commanding, places, serving, texts
 
 PAGE = ROOT / "yolgibat/building.html"
 # The page of a bus below that of its building: its number, and what is asked for there.
@@ -46,11 +46,6 @@ class Bus(commanding.Bus):
         later = self.way[self.way.index(self) + 1 :] if self in self.way else []
         return super().state() | {"onward": {"number": later[0].number, "name": later[0].name} if later else None}
 
-    def is_placed(self) -> bool:
-        """Whether each luminaire that may blink has a place."""
-        names = places.read(self.names)
-        return all(it["random"] in names for it in self.walkable())
-
     def changed(self) -> tuple[object, ...]:
         """What changes if something changes that is known of a luminaire, as far as it was looked at last."""
         return self.seen, commanding.stamp_of(self.names), self.command and self.command.number, self.idle.is_set()
@@ -84,7 +79,7 @@ class Bus(commanding.Bus):
                 return found | {"is": "busy", "command": "identify", "address": walk.address(), "found": None, "frames": None, "phase": None}
             if not self.idle.is_set():
                 told = command.followed().state()
-                return found | {"is": "busy", "command": command.name, "address": command.address, "found": command.found, **told}
+                return found | {"is": "busy", "command": command.name, "address": command.address, **told}
             is_ill = command and command.outcome() not in commanding.WHOLE
             # A walk stops who blinks.
             if is_ill := is_ill and not (command.name == "identify" and command.outcome() >= commanding.STOPPED):
@@ -170,7 +165,7 @@ class Handler(serving.Handler):
     def tell_whole_csv(self) -> None:
         them = [{"bus": bus.name, **it} for bus in self.server.buses for it in places.rows(bus.table, places.read(bus.names))]
         more = ("Content-Disposition", 'attachment; filename="luminaires.csv"')
-        self.write(200, "text/csv", places.as_csv(them, "bus"), more)
+        self.write(200, "text/csv", places.as_csv(them, "bus", is_german=self.language() == command.GERMAN), more)
 
     def do_all(self) -> None:
         """Begins a command on many buses. One on which something goes on is left as it is."""

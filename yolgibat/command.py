@@ -2,6 +2,7 @@
 
 COMMAND of --driver is split into words as a shell does it; a relative path in it is looked for in the current folder, and then where the
 launchers are. With --story and --trace FILE is made anew if it is empty, a story or a trace, and none of the files that the call works with.
+What is said over a driver is in the language of --lang, or else of the terminal, as far as it has a translation.
 
 Exit statuses: those of the program, and of what is done in its place; 2 for a bad word; 5 where a file of the records, or beside them, cannot
 be had; 127 if a driver cannot be started; 126, 127 and 130 if the program is not there; 130 if it is interrupted.
@@ -19,19 +20,27 @@ import typing
 
 from yolgibat import ROOT, programs, standard
 
+if typing.TYPE_CHECKING:
+    from yolgibat import following
+
 HELP = ROOT / "yolgibat/help"
 BAD_WORD, NO_RECORDS, NOT_STARTED = 2, 5, 127
 COMMISSION, SIMULATE, VIEW = "dali_commission", "dali_sim", "dali_view"
 # The options of a driver, and of files in which is told what was on the bus; each with a value. Other options that have a value which is no word
 # of the launcher, and those that say that places or serial numbers are meant.
-DRIVER, FILES, VALUES, BESIDE = ("--driver", "--driver-timeout"), ("--story", "--trace"), ("--records",), ("--names", "--all", "--serials")
+DRIVER, FILES, EXPECT, LANGUAGE = ("--driver", "--driver-timeout"), ("--story", "--trace"), "--expect", "--lang"
+# A table with the places for a German spreadsheet; and the language in which a page writes one.
+CSV, GERMAN = "--csv=de", "de"
+VALUES, BESIDE = ("--records",), ("--names", "--all", "--serials", CSV)
 # The tasks of `dali_commission` that talk to a driver. The commands of each launcher that have a help, and its own; what `--build` builds.
 OVER_DRIVER = ("run", "check", "identify", "replace", "mend", "clear")
+# Those of which it is shown how far they are, and those that go on if they are called again.
+FAR, GOES_ON = ("run", "check", "replace", "mend", "clear"), ("run", "replace", "mend", "clear")
 COMMANDS = {COMMISSION: (*OVER_DRIVER, "table", "page", "building"), SIMULATE: ("replay", "threads", "audit", "view", "trace"), VIEW: ()}
 TEXTS = {COMMISSION: ("dali_commission-launcher",), SIMULATE: ("dali_sim", "dali_sim-launcher"), VIEW: ("dali_view",)}
 BUILDS = {COMMISSION: (COMMISSION,), SIMULATE: ("dali_play", SIMULATE), VIEW: ()}
 # What is done in the program's place: the tasks, each with the option that says so.
-IN_PLACE = (("table", "--names"), ("identify", "--all"), ("check", "--serials"))
+IN_PLACE = (("table", "--names"), ("table", CSV), ("identify", "--all"), ("check", "--serials"))
 # The commands of `dali_sim` that draw: what, and what it is called in a usage.
 DRAWS = {"view": ("page", "PAGE"), "trace": ("trace", "DUMP")}
 OF_BUILDING = ("run", "check", "mend", "clear", "table", "replace", "page")
@@ -115,6 +124,13 @@ def address_of(word: str) -> int:
     return int(word)
 
 
+def expected_of(given: list[str]) -> int | None:
+    """How many luminaires there are, or None if that is not said."""
+    if given and (len(given) != 1 or not re.fullmatch(r"[0-9]{1,2}", given[0]) or int(given[0]) not in range(1, 65)):
+        raise BadWord(f"{EXPECT} {' '.join(given)}: one number from 1 to 64 is wanted")
+    return int(given[0]) if given else None
+
+
 def path_of(name: str, given: list[str]) -> str | None:
     """The path that is given to an option, or None if none is."""
     if given and (len(given) != 1 or not given[0]):
@@ -153,6 +169,7 @@ def of_page(words: list[str]) -> argparse.Namespace:
     options.add_argument("--others", action="append", type=block_of, default=[])
     options.add_argument("--port", type=port_of, default=0)
     options.add_argument("--open", action="store_true")
+    options.add_argument(EXPECT, action="append")
     options.add_argument("--program")
     options.add_argument("block", nargs="?", type=block_of, default="0-63")
     return over_driver(options, words)
@@ -176,8 +193,9 @@ def of_places(words: list[str]) -> argparse.Namespace:
     form = options.add_mutually_exclusive_group()
     for name in ("csv", "json", "names", "all"):
         (form if name in ("csv", "json") else options).add_argument(f"--{name}", action="store_true")
-    rest, given = parted(words, *DRIVER)
-    chosen = options.parse_args(rest)
+    rest, given = parted([it for it in words if it != CSV], *DRIVER)
+    chosen = options.parse_args([*rest, *(["--names", "--csv"] if CSV in words else [])])
+    chosen.csv = GERMAN if CSV in words else chosen.csv
     if not (chosen.names if chosen.task == "table" else chosen.all) or chosen.names and chosen.all:
         raise BadWord("it is either table --names or identify --all")
     if chosen.task == "identify":
@@ -212,7 +230,8 @@ def of_building(words: list[str]) -> argparse.Namespace:
     for name in ("json", "csv", "open", "yes"):
         options.add_argument(f"--{name}", action="store_true")
     options.add_argument("bus", nargs="*")
-    chosen = options.parse_intermixed_args(words)
+    chosen = options.parse_intermixed_args(["--csv" if it == CSV else it for it in words])
+    chosen.csv = GERMAN if CSV in words else chosen.csv
     for wrong, text in (
         (chosen.csv and (chosen.json or chosen.task != "table"), "--csv is a form of `table`, beside no other"),
         (chosen.since and chosen.task != "check", "--since is of `check`"),
@@ -240,7 +259,9 @@ def become(*words: str | os.PathLike[str]) -> typing.NoReturn:
 
 def show(*names: str) -> typing.NoReturn:
     """Writes texts of the help."""
-    become("cat", *(HELP / f"{it}.txt" for it in names))
+    from yolgibat import helps
+
+    sys.exit(standard.ended(helps.text_of(*names), 0))
 
 
 def answer(launcher: str, words: list[str]) -> None:
@@ -261,7 +282,9 @@ def answer(launcher: str, words: list[str]) -> None:
 
 def refuse(launcher: str) -> int:
     """Says what a launcher takes."""
-    standard.say("".join((HELP / f"{it}.txt").read_text() for it in TEXTS[launcher]), "")
+    from yolgibat import helps
+
+    standard.say(helps.text_of(*TEXTS[launcher]), "")
     return BAD_WORD
 
 
@@ -279,11 +302,11 @@ def call_of(words: list[str]) -> Call:
     """What these words ask for. A value is none of them, also of an option of the program that is a file of records."""
     task, at, is_driven, beside, left = "", None, False, "", iter(enumerate(words))
     for number, word in left:
-        is_own = word.partition("=")[0] in (*DRIVER, *FILES)
+        is_own = word.partition("=")[0] in (*DRIVER, *FILES, EXPECT)
         if not is_own and word not in BESIDE and at is None:
             task, at = word, number
         is_driven, beside = is_driven or is_own, word if word in BESIDE else beside
-        if word in (*DRIVER, *FILES, *VALUES):
+        if word in (*DRIVER, *FILES, EXPECT, *VALUES):
             next(left, None)
     return Call(task, [it for number, it in enumerate(words) if number != at], is_driven, beside)
 
@@ -305,7 +328,7 @@ def commission(words: list[str]) -> int:
             return BAD_WORD
         words = [*words, "--yes"]
     if call.is_driven:
-        return drive(words, call.task == "identify")
+        return drive(words, call.task)
     become(programs.LAUNCH, COMMISSION, *words)
 
 
@@ -333,26 +356,43 @@ def in_place(task: str, words: list[str]) -> int:
     return terminal.main(of_places(words))
 
 
-def drive(words: list[str], is_gentle: bool) -> int:
+def drive(words: list[str], task: str) -> int:
     """Runs the program joined to its driver. Whoever shows a luminaire is to leave it bright, so that is ended gently."""
     standard.fill()
     from yolgibat import joining
 
-    rest, given = parted(words, *DRIVER, *FILES)
+    rest, given = parted(words, *DRIVER, *FILES, EXPECT)
     if wrong := programs.fault(COMMISSION, rest):
         standard.say(wrong[0])
         return wrong[1]
-    driver, seconds = command_of(given["--driver"]), seconds_of(given["--driver-timeout"])
+    driver, seconds, expected = command_of(given["--driver"]), seconds_of(given["--driver-timeout"]), expected_of(given[EXPECT])
+    if expected and task != "run":
+        raise BadWord("--expect is of `run` and `page`")
     with files_of(given, rest, driver) as files:
         if not programs.can_start(COMMISSION, driver):
             return NOT_STARTED
         program, status = programs.ready(COMMISSION)
         if status:
             return status
-        status = joining.join([str(program), *rest], driver, seconds, is_gentle, files)
+        view = view_of(task, rest, expected, "story" in files)
+        status = joining.join([str(program), *rest], driver, seconds, task == "identify", files, view=view)
     if status - 128 in joining.PASSED:
-        standard.say(f"{COMMISSION}: interrupted")
+        standard.say(f"{COMMISSION}: interrupted" + (": what was kept is kept, and the same line goes on" if task in GOES_ON else ""))
     return status
+
+
+def view_of(task: str, words: list[str], expected: int | None, has_story: bool) -> "following.View | None":
+    """What shows how far a command is, or says in another language what it says, or whether all luminaires are there, or hears for a story which
+    addresses it left alone. None if none is wanted."""
+    is_far = task in FAR and "--quiet" not in words and os.isatty(2)
+    if not is_far and standard.spoken == standard.ENGLISH and not expected and not has_story:
+        return None
+    from yolgibat import following
+
+    block = re.fullmatch(r"([0-9]{1,2})-([0-9]{1,2})", words[-1])
+    view = following.View(task, int(block[2]) + 1 - int(block[1]) if block else 0, expected)
+    view.below.is_able &= is_far
+    return view
 
 
 @contextlib.contextmanager
@@ -387,7 +427,9 @@ def simulate(words: list[str]) -> int:
 
 def view(words: list[str]) -> int:
     """Draws the run of a script as a page, or a story."""
-    return draw("page", words) if not words or is_story(words) else refuse(VIEW)
+    if words and not is_story(words):
+        raise BadWord(f"'{words[0]}' is none of its words: ./dali_view < SCRIPT > PAGE, or ./dali_view --story FILE > PAGE")
+    return draw("page", words)
 
 
 def is_story(words: list[str]) -> bool:
@@ -430,8 +472,24 @@ def of_audit(words: list[str]) -> tuple[str, dict[str, str], list[str]]:
 LAUNCHERS = {COMMISSION: commission, SIMULATE: simulate, VIEW: view}
 
 
+def spoken_of(given: list[str]) -> str:
+    """The language that is asked for, or that of the terminal. English, which most ask for, is not looked for in the list."""
+    word = next((os.environ[it] for it in ("LC_ALL", "LC_MESSAGES", "LANG") if os.environ.get(it)), "")
+    language = " ".join(given) if given else re.split("[_.@]", word)[0]
+    if language in ("", "C", "POSIX", standard.ENGLISH) and not given:
+        return standard.ENGLISH
+    from yolgibat import texts
+
+    if given and language not in texts.languages():
+        raise BadWord(f"{LANGUAGE} {language}: one of {', '.join(texts.languages())} is wanted")
+    return language if language in texts.languages() else standard.ENGLISH
+
+
 def main(launcher: str, *words: str) -> int:
     try:
+        if launcher == COMMISSION:
+            words, given = parted(list(words), LANGUAGE)
+            standard.spoken = spoken_of(given[LANGUAGE])
         answer(launcher, list(words))
         return LAUNCHERS[launcher](list(words)) if words or launcher == VIEW else refuse(launcher)
     except BadWord as wrong:

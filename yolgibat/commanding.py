@@ -1,16 +1,16 @@
 """The commands of a page: six of `dali_commission`, one at a time over one driver, and what is known of the bus by them."""
 
+import contextlib
 import json
 import os
 import pathlib
-import re
 import signal
 import subprocess
 import threading
 import time
 import typing
 
-from yolgibat import ROOT, following, forked, joining, marks, places, serials, texts
+from yolgibat import ROOT, following, forked, joining, marks, places, serials, telling, texts
 
 if typing.TYPE_CHECKING:
     from yolgibat import walking
@@ -24,18 +24,21 @@ VERSION = (ROOT / "yolgibat/help/dali_commission-version.txt").read_text().strip
 LINES, LONGEST, MUCH = 200, 400, 1 << 20
 # How many seconds a command has to end once it was stopped, before it is asked again.
 PATIENCE = 8
-# How far a run is.
-PROGRESS = re.compile(r"(\d+) gear found, \d+ frames, (\d+) addresses left")
 # The statuses of which something more is known; all of a signal are one.
-DONE, NOT_SO, BLOCK_FULL, GAVE_UP, NOBODY, SHARED, NOT_CLEARED, UNCLEAR, STOPPED = 0, 1, 6, 7, 10, 13, 14, 15, 128
+DONE, NOT_SO, DRIVER, BLOCK_FULL, GAVE_UP, NOBODY, NOTHING, SHARED, NOT_CLEARED, UNCLEAR, STOPPED = 0, 1, 4, 6, 7, 10, 11, 13, 14, 15, 128
+# Those behind which the same is to be done again.
+AGAIN = (DRIVER, GAVE_UP, NOBODY, NOTHING)
 # Those of a command that has done all of its asking, whatever it found.
 WHOLE = (DONE, NOT_SO, SHARED, UNCLEAR)
 # What the controllers of a bus do in turn, each over its own records and at its own addresses; and of what one may hear no gear.
 IN_TURN, HEARS = ("run", "check", "mend"), ("check", "mend")
 # What is known of a short address that `mend` is for.
 MENDS = ("left-alone", "several", "unclear", "strangers", "unclear-strangers")
-# The words of an end, and what can be done, stand in yolgibat/texts: by command and status, or by status alone.
-END, ODD, SILENT, OTHER = "end:{}:{}", "end:run:odd", "end:run:silent", "end:other"
+# Lines, by their names in the list of texts, before which the program, or the driver, may say why; and those that say no cause.
+ENDS = ("Failure::BlockFull", "Failure::GaveUp", "Failure::Conflict", "Failure::Spent", "say:driver-ended-before", "say:driver-signal-before")
+CAUSELESS = ("Said::AsksAddresses", "Said::AsksTables", "Said::AsksAll", "Said::Commissioned")
+# The words of an end, and what can be done, stand in yolgibat/texts.json: by command and status, or by status alone.
+END, ODD, SILENT, COUNT, OTHER = "end:{}:{}", "end:run:odd", "end:run:silent", "end:run:count", "end:other"
 # The words of ends that leave something to be mended, which are not as bad as others.
 OPEN = ("end:13", "end:mend:13", "end:15")
 
@@ -57,8 +60,9 @@ class Site(typing.NamedTuple):
     block: str
     driver: list[str]
     seconds: float
-    # The driver as the command line names it.
+    # The driver as the command line names it; and how many luminaires there are, if that is said.
     title: str
+    expected: int | None = None
 
 
 def address_of(value: object) -> int:
@@ -105,17 +109,21 @@ def missing_in(words: list[str]) -> list[int]:
 def look_of(status: int, words: str) -> str:
     """How well an end is: what left a gear that is not understood, or did not hear one of the table, has not done all."""
     if status == DONE:
-        return "part" if words in (ODD, SILENT) else "good"
+        return "part" if words in (ODD, SILENT, COUNT) else "good"
     return "part" if status >= STOPPED or words in OPEN else "bad"
 
 
-def end_of(command: str, status: int, odd: list[int] = (), silent: list[int] = ()) -> str:
-    """The key of the words that say what an end is, and what can be done."""
+def end_of(command: str, status: int, odd: list[int] = (), silent: list[int] = (), is_other: bool = False) -> str:
+    """The key of the words that say what an end is, and what can be done. Other luminaires than were expected may be in the table."""
     status = STOPPED if status >= STOPPED else status
-    if (command, status) == ("run", DONE) and (odd or silent):
-        return ODD if odd else SILENT
+    if (command, status) == ("run", DONE) and (odd or silent or is_other):
+        return ODD if odd else SILENT if silent else COUNT
     known = texts.of(texts.FIRST)
     return next((it for it in (END.format(command, status), f"end:{status}") if it in known), OTHER)
+
+
+def is_causeless(it: texts.Heard | None) -> bool:
+    return it is not None and (it.name in CAUSELESS or it.name == "Failure::Driver" and texts.heard(it.parts["cause"]).name == "DriverFault::Ended")
 
 
 def object_of(text: bytes) -> dict[str, typing.Any]:
@@ -161,16 +169,20 @@ class Command:
 
     number  how many commands were begun before
     before  the commands of the controllers that had their turn before this one
+    known   how many luminaires its tables had before, and `expected` how many they are to have in the end, if that is known
     """
 
+    known, expected = 0, None
+
     def __init__(
-        self, site: Site, number: int, name: str, address: int | None, words: list[str], kept: tuple[int, ...], before: "tuple[Command, ...]" = ()
+        self, site: Site, number: int, name: str, address: int | None, words: list[str], kept: tuple[int, ...],
+        before: "tuple[Command, ...]" = (), left: forked.Left | None = None,
     ) -> None:
-        self.number, self.name, self.address, self.begun, self.said, self.before = number, name, address, time.time(), [], before
-        self.found = self.left = self.status = self.ended = None
+        self.number, self.name, self.address, self.said, self.before, self.begun = number, name, address, [], before, left.begun if left else time.time()
+        self.status = self.ended = None
         self.is_stopped, self.report, self.lock, self.missing = False, {}, threading.Lock(), missing_in(words)
-        self.story, self.follower, self.since = os.memfd_create("story"), following.Follower(), None
-        self.process = forked.Process([[site.program, *words], site.driver, site.seconds, name == "identify"], (self.story, *kept))
+        self.story, self.follower = left.story if left else os.memfd_create("story"), following.Follower()
+        self.process = left or forked.Process([[site.program, *words], site.driver, site.seconds, name == "identify"], (self.story, *kept))
 
     def follow(self) -> None:
         """Hears what it says until it has ended."""
@@ -182,6 +194,9 @@ class Command:
         self.process.wait()
         self.ended = time.time()
         self.status = self.process.returncode if self.process.returncode >= 0 else STOPPED - self.process.returncode
+        if isinstance(self.process, forked.Left):
+            # How a run stands is all that its story tells of its end.
+            self.status = next((status for status, name in telling.STANDS.items() if [name] == self.followed().stands), STOPPED)
 
     def take(self) -> None:
         text = self.process.stdout.read(MUCH)
@@ -190,10 +205,7 @@ class Command:
         self.report = object_of(text)
 
     def hear(self, line: str) -> None:
-        if progress := PROGRESS.fullmatch(line):
-            self.found, self.left = map(int, progress.groups())
-            self.since = self.followed().passes
-        elif line:
+        if line and not self.followed().hear(line):
             self.said = [*self.said[1 - LINES :], line]
 
     def statuses(self) -> list[int]:
@@ -232,16 +244,36 @@ class Command:
         if self.status is None:
             self.process.send_signal(signal.SIGINT)
 
-    def state(self, odd: list[int], silent: list[int]) -> dict[str, typing.Any]:
+    def more(self) -> int | None:
+        """How many luminaires more are expected."""
+        return None if self.expected is None else max(self.expected - self.known - (self.follower.found or 0), 0)
+
+    def part(self) -> float | None:
+        """Which part is done: of a run of those that are expected, if that is known; else of the addresses that are asked."""
+        if self.name == "run" and self.expected:
+            return min(self.known + (self.follower.found or 0), self.expected) / self.expected
+        return (self.follower.at + 1) / len(ADDRESSES) if self.name in ("run", "check") and self.follower.phase == "asking" else None
+
+    def reason(self) -> list[str]:
+        """What was said last, with the line before it if that says why it ended so."""
+        said = [it for it in self.said if not is_causeless(texts.heard(it))]
+        last = texts.heard(said[-1]) if said else None
+        return said[-2 if last and last.name in ENDS else -1 :]
+
+    def state(self, odd: list[int], silent: list[int], is_other: bool = False) -> dict[str, typing.Any]:
         """What a page shows of it. These short addresses have somebody who is not understood, or not as is recorded; these nobody who answers."""
-        followed = self.followed().state()
+        follower = self.followed()
+        followed = follower.state() | {"part": self.part(), "about": self.name == "check" or self.expected is not None, "remains": None}
+        if (left := follower.seconds_left(self.name, time.time() - self.begun, self.more())) is not None:
+            followed["remains"] = following.time_of(left)
         state = {"command": self.name, "address": self.address, "begun": self.begun, "said": self.said, **followed}
-        state |= {"found": self.found, "left": self.left, "stopped": self.is_stopped, "status": self.outcome()}
-        state |= {"lit": self.address in self.follower.lit, "seconds": (self.ended or time.time()) - self.begun, "since": self.since}
+        state |= {"stopped": self.is_stopped, "status": self.outcome()}
+        state |= {"lit": self.address in self.follower.lit, "seconds": (self.ended or time.time()) - self.begun}
         if self.status is not None:
             state |= {"frames": self.report.get("frames", followed["frames"]), "end": self.report.get("end")}
-            words = end_of(self.name, self.outcome(), odd, silent)
-            state |= {"words": words, "look": look_of(self.outcome(), words)}
+            words = end_of(self.name, self.outcome(), odd, silent, is_other)
+            look = look_of(self.outcome(), words)
+            state |= {"words": words, "look": look, "reason": self.reason() if look == "bad" and self.outcome() not in WHOLE else []}
         return state
 
 
@@ -257,7 +289,7 @@ class Bus:
 
     def __init__(self, site: Site, kept: tuple[int, ...] = (), more: typing.Sequence[Site] = ()) -> None:
         self.site, self.kept, self.sites, self.lock, self.idle = site, kept, (site, *more), threading.RLock(), threading.Event()
-        self.names, self.command, self.trouble = places.file_of(site.records[0]), None, None
+        self.names, self.command, self.trouble, self.expected = places.file_of(site.records[0]), None, None, site.expected
         self.name = self.names.name.removesuffix(places.ENDING)
         # The table as it was read last, who of it was there and who was silent when asked last; what the last check found beside it, and when; the addresses that
         # the last run left alone.
@@ -327,10 +359,12 @@ class Bus:
         except (OSError, ValueError, subprocess.TimeoutExpired) as why:
             return [], str(why)
 
-    def begin(self, name: object, address: object = None, missing: object = ()) -> None:
-        """Begins a command, if none goes on, and no walk."""
+    def begin(self, name: object, address: object = None, missing: object = (), expected: object = None) -> None:
+        """Begins a command, if none goes on, and no walk. So many luminaires are expected of a run, if that is said."""
         if not isinstance(name, str) or name not in COMMANDS:
             raise Bad("this is none of the commands")
+        if expected is not None and (type(expected) is not int or not 0 < expected <= len(ADDRESSES)):
+            raise Bad("the number of luminaires is one from 1 to 64")
         words = words_of(self.site_of(name, address), name, address, missing)
         with self.lock:
             if self.walking():
@@ -338,6 +372,7 @@ class Bus:
             self.refresh()
             if not {*missing_in(words)} <= {it["address"] for it in self.table}:
                 raise Bad("the table has no such short address")
+            self.expected = expected if name == "run" else self.expected
             self.start(name, address, words)
             self.walked = None
 
@@ -353,6 +388,14 @@ class Bus:
         threading.Thread(target=self.follow, args=(self.command, old), daemon=True).start()
         return self.command
 
+    def go_on(self, left: forked.Left) -> None:
+        """Follows a command that an earlier page began."""
+        address = next((int(it) for it in left.words if it.isdigit()), None) if left.words[0] != "run" else None
+        self.command = Command(self.site, 0, left.words[0], address, left.words, (), left=left)
+        self.command.known, self.command.expected = len(self.table), None
+        self.idle.clear()
+        threading.Thread(target=self.follow, args=(self.command, None), daemon=True).start()
+
     def site_of(self, name: str, address: object) -> Site:
         """What a command is asked of first: to mend an address, of the controller in whose block it lies."""
         is_its = lambda it: name == "mend" and type(address) is int and address in addresses_in([it.block])
@@ -362,6 +405,7 @@ class Bus:
         """Begins the command of the next controller."""
         number, story = (self.command.number + 1, self.command.story) if self.command else (0, None)
         self.command = Command(self.sites[len(before)], number, name, address, words, self.kept, before)
+        self.command.known, self.command.expected = len(self.table), self.expected if name == "run" else None
         if story is not None:
             os.close(story)
 
@@ -541,24 +585,53 @@ class Bus:
             odd, silent, walk = sorted({*self.left_alone, *self.strangers}), sorted(at for at, _ in self.silent), self.walking()
             if walk:
                 walk.seen = time.monotonic()
-            command = self.command.state(odd, silent) if self.command else None
+            is_other = self.expected not in (None, len(self.table))
+            command = self.command.state(odd, silent, is_other) if self.command else None
+            next_step = self.next_step(unfinished) if self.idle.is_set() and not walk else None
             return {
                 "site": self.name, "building": self.building, "version": VERSION, "records": self.site.records,
                 "block": ", ".join(it.block for it in self.sites), "driver": self.site.title, "trouble": trouble, "busy": not self.idle.is_set(), "command": command,
                 "places": them, "odd": odd, "silent": silent, "spare": spare,
-                "unaddressed": self.unaddressed, "checked": self.checked, "unfinished": unfinished,
-                "walk": walk.state() if walk else None, "walked": self.walked, "onward": None,
+                "unaddressed": self.unaddressed, "checked": self.checked, "unfinished": unfinished, "expected": self.expected,
+                "walk": walk.state() if walk else None, "walked": self.walked, "onward": None, "next": next_step,
             }
+
+    def next_step(self, unfinished: int | None) -> dict[str, typing.Any] | None:
+        """What is to be done next, with its short address if it has one; or None, if the page does not know."""
+        command, status = self.command, self.command and self.command.outcome()
+        if unfinished is not None:
+            return {"command": "replace", "address": unfinished}
+        if command and not self.walked and command.name in IN_TURN and (status in AGAIN or status >= STOPPED):
+            return {"command": command.name, "address": command.address}
+        if self.left_alone or any(what in MENDS for what, _ in self.strangers.values()):
+            return {"command": "mend", "address": None}
+        gone = [it["address"] for it in self.table if (it["address"], it["random"]) in self.missing]
+        if len(gone) == 1:
+            return {"command": "replace", "address": gone[0]}
+        is_known = self.checked is not None or command is not None
+        for name, is_due in (
+            ("run", self.unaddressed or not self.table), ("check", self.silent or self.strangers), ("walk", not self.is_placed()), ("check", not is_known)
+        ):
+            if is_due and not (command and command.name == name and status in WHOLE and self.walked is None and name != "run"):
+                return {"command": name, "address": None}
+        return None
+
+    def is_placed(self) -> bool:
+        """Whether each luminaire that may blink has a place."""
+        with contextlib.suppress(places.Unreadable):
+            names = places.read(self.names)
+            return all(it["random"] in names for it in self.walkable())
+        return True
 
     def numbers(self) -> dict[str, serials.Serial]:
         """The serial numbers that were read, by random address."""
         return serials.read(serials.file_of(self.site.records[0]))
 
-    def csv(self) -> str:
+    def csv(self, is_german: bool = False) -> str:
         """The table with the places, as comma-separated values."""
         with self.lock:
             self.read_table()
-            return places.as_csv(places.rows(self.table, places.read(self.names), self.numbers()))
+            return places.as_csv(places.rows(self.table, places.read(self.names), self.numbers()), is_german=is_german)
 
 
 def odd_of(report: dict[str, typing.Any]) -> dict[int, tuple[str, str | None]]:

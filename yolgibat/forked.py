@@ -2,14 +2,18 @@
 
 import contextlib
 import errno
+import fcntl
 import gc
+import io
 import json
 import os
+import pathlib
 import signal
 import socket
 import subprocess
 import sys
 import threading
+import typing
 
 from yolgibat import ROOT, joining
 
@@ -17,6 +21,8 @@ from yolgibat import ROOT, joining
 CALL = "import sys; sys.path[0] = sys.argv[1]; from yolgibat import forked; forked.serve(int(sys.argv[2]))"
 # How many bytes the words of a copy have at most, and how many descriptors it is given.
 WORDS, FILES = 1 << 17, 16
+# The commands by which the call of a program is known.
+COMMANDS = (b"run", b"check", b"identify", b"replace", b"mend")
 # How many bytes the number of a process has.
 NUMBER = 4
 LOCK = threading.Lock()
@@ -73,6 +79,39 @@ class Process:
         if self.returncode is None:
             with contextlib.suppress(ProcessLookupError):
                 os.kill(self.pid, number)
+
+
+class Left:
+    """A copy that goes on though what began it is gone: the words of its program, and its story. What else it tells nothing hears.
+
+    opened  the file that it keeps locked until it has ended
+    """
+
+    def __init__(self, pid: int, words: list[str], story: int, opened: typing.TextIO) -> None:
+        self.pid, self.words, self.story, self.opened, self.returncode = pid, words, story, opened, None
+        self.stdout, self.stderr, self.begun = io.BytesIO(), io.BytesIO(), os.stat(f"/proc/{pid}").st_mtime
+
+    def wait(self) -> None:
+        """Waits for its end, and has the lock then."""
+        fcntl.flock(self.opened, fcntl.LOCK_EX)
+        self.returncode = 0
+
+    send_signal = Process.send_signal
+
+
+def left_of(opened: typing.TextIO) -> Left | None:
+    """The copy that keeps a file locked, if there is one and it is this user's."""
+    for process in pathlib.Path("/proc").glob("[0-9]*"):
+        with contextlib.suppress(OSError, IndexError, StopIteration):
+            files = {it: os.stat(it) for it in process.glob("fd/*")} if int(process.name) != os.getpid() else {}
+            if any(os.path.samestat(it, os.fstat(opened.fileno())) for it in files.values()):
+                story = next(it for it in files if os.readlink(it).startswith("/memfd:story"))
+                children = (process / "task" / process.name / "children").read_text().split()
+                calls = [pathlib.Path(f"/proc/{it}/cmdline").read_bytes().split(b"\0")[:-1] for it in children]
+                # The driver has no command of the program.
+                words = next(call[at:] for call in calls for at in (1, 2, 3, 4) if call[at : at + 1] and call[at] in COMMANDS)
+                return Left(int(process.name), list(map(os.fsdecode, words)), os.open(story, os.O_RDONLY), opened)
+    return None
 
 
 def serve(number: int) -> None:

@@ -1,7 +1,7 @@
 """Joins a program and its driver: starts both, passes lines and signals on, and ends the driver.
 
 Each line of the program that begins with `put ` is passed to the driver, and the driver's answer to the program (docs/ADAPTERS.md); every
-other line of the program goes to standard output. Their standard error is left alone.
+other line of the program goes to standard output. Their standard error is left alone, but for what a view of the program shows in its place.
 
 A driver is at fault if it takes too long for an answer, writes a line that was not asked for, or ends before it has answered. That is said.
 The program sees the end of its input then. What a driver answers the program judges.
@@ -31,6 +31,9 @@ import typing
 
 from yolgibat import ROOT, relay, telling
 from yolgibat.standard import UNWRITTEN, say
+
+if typing.TYPE_CHECKING:
+    from yolgibat import following
 
 # The signals that are passed on to the program.
 PASSED = (signal.SIGTERM, signal.SIGHUP, signal.SIGINT)
@@ -124,10 +127,14 @@ def drain(driver: subprocess.Popen[bytes]) -> None:
             pass
 
 
-def pass_said(program: subprocess.Popen[bytes], signals: Signals) -> None:
+def pass_said(program: subprocess.Popen[bytes], signals: Signals, view: "following.View | None") -> None:
     """Passes on what a program says, but not that its input has ended if a signal asked for that."""
     for line in program.stderr:
-        if not (signals.is_to_end() and INPUT_ENDED.fullmatch(line)):
+        if signals.is_to_end() and INPUT_ENDED.fullmatch(line):
+            continue
+        if view:
+            view.say(os.fsdecode(line))
+        else:
             say(os.fsdecode(line), "")
 
 
@@ -171,30 +178,36 @@ def alone(program: list[str], driver: list[str], seconds: float, is_gentle: bool
 
 def join(
     program: list[str], driver: list[str], seconds: float = ANSWERS, is_gentle: bool = False,
-    files: dict[str, typing.BinaryIO] | None = None, title: str | None = None,
+    files: dict[str, typing.BinaryIO] | None = None, title: str | None = None, view: "following.View | None" = None,
 ) -> int:
-    """Runs a program and a driver, each a list of words, tells of their frames in files, `story` and `trace`, and returns the exit status."""
+    """Runs a program and a driver, each a list of words, tells of their frames in files, `story` and `trace`, and returns the exit status. A view
+    says what the program says, and shows how far it is."""
     title, signals = title or os.path.basename(program[0]), Signals(is_gentle)
     drives = started(title, "driver", driver)
     if not drives:
         return NOT_STARTED
-    runs = started(title, "program", program, subprocess.PIPE if is_gentle else None)
+    is_heard = is_gentle or view is not None
+    runs = started(title, "program", program, subprocess.PIPE if is_heard else None)
     if not runs:
         say_end(title, drives, None, end(title, drives))
         return NOT_STARTED
     signals.begin(runs)
-    tells = telling.Run(**files) if files else None
+    is_shown = view is not None and view.below.is_able
+    tells = telling.Run(**(files or {}), view=view if is_shown else None) if files or is_shown else None
     between = relay.Relay(runs, drives, seconds, signals, tells)
-    said = threading.Thread(target=pass_said, args=(runs, signals), daemon=True)
-    if is_gentle:
+    said = threading.Thread(target=pass_said, args=(runs, signals, view), daemon=True)
+    if is_heard:
         said.start()
     between.run()
-    if is_gentle:
+    if is_heard:
         said.join(PATIENCE)
+    if view:
+        view.end()
     is_by_itself = end(title, drives, between.fault is not None)
     between.look_for_rest()
     if tells:
-        tells.end(runs.returncode if program[1:2] == ["run"] and not between.fault else None)
+        is_run = program[1:2] == ["run"] and not between.fault
+        tells.end(runs.returncode if is_run else None, sorted(view.left_alone) if view else [])
         for name, why in tells.faults.items():
             say(f"{title}: the {name} cannot be written: {why}")
     say_end(title, drives, between.fault, is_by_itself)

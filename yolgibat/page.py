@@ -7,7 +7,7 @@
 It writes the address of the page, which has a token, and serves until it is interrupted. With --open a browser is started with
 it. With --ask the page asks for the file of the records, the driver and the block. It listens on 127.0.0.1. A request without the token, from another origin or with a foreign Host is refused. What the page asks for is done by dali_commission
 itself: run, check, identify, table and replace, one at a time. A run goes on when the page is closed; it ends with this program.
-Where the program was killed, a further one waits until the command that it began has ended.
+Where the program was killed, a further one follows the command that it began, by its story, and may stop it.
 
 The places of the luminaires are kept beside the first file of the records: those of site.db in site.names.json, by random
 address. site.db.page keeps the address of the page, for the user alone: the next page has the same token, and the same port, if
@@ -19,13 +19,14 @@ of the records cannot be written; 126, 127 and 130 if the program is not there; 
 
 import argparse
 import collections.abc
+import fcntl
 import json
 import os
 import pathlib
 import threading
 import typing
 
-from yolgibat import ROOT, command, commanding, joining, programs, serving, standard, texts
+from yolgibat import ROOT, command, commanding, forked, joining, programs, serving, standard, texts
 
 BAD_WORD, NO_RECORDS = 2, 5
 PAGE = ROOT / "yolgibat/choose.html"
@@ -60,10 +61,10 @@ class Server(serving.Server):
             raise commanding.Bad(f"the driver '{chosen.driver[0]}' cannot be started: it is no program that can be run")
         with self.choice:
             if self.chosen:
-                raise commanding.Busy("a file and a driver were chosen already")
+                raise commanding.Bad("a file and a driver were chosen already")
             self.opened = serving.locked(pathlib.Path(f"{chosen.records[0]}.page"))
             if not self.opened:
-                raise commanding.Busy("a page is served over these records already")
+                raise commanding.Bad("a page is served over these records already")
             self.chosen, chosen.port = chosen, self.server_address[1]
         token = serving.kept_of(self.opened).token or self.token
         self.opened.seek(0)
@@ -117,9 +118,13 @@ def main(chosen: argparse.Namespace, opened: typing.TextIO | None = None) -> int
         return NO_RECORDS
     if not opened:
         return 0
-    site = commanding.Site(program, chosen.records, chosen.others, chosen.block, chosen.driver, chosen.seconds, chosen.title)
+    site = commanding.Site(program, chosen.records, chosen.others, chosen.block, chosen.driver, chosen.seconds, chosen.title, command.expected_of(chosen.expect))
     bus = commanding.Bus(site, (opened.fileno(),))
     bus.read_table()
+    if left := forked.left_of(opened):
+        bus.go_on(left)
+    else:
+        fcntl.flock(opened, fcntl.LOCK_EX)
     try:
         return serving.serve(lambda port, token: serving.Server(bus, port, token), opened, chosen.port, chosen.open, bus.end)
     except OSError as why:

@@ -21,6 +21,8 @@ EDGES = f" {JOINERS}"
 # In comma-separated values a random address has this before it, so that no spreadsheet takes it for a number, as it does 0969E9; and a text
 # that a spreadsheet would take for a formula, an apostrophe.
 HEXADECIMAL, FORMULA = "0x", re.compile(r"'*[=+@\-\uff1d\uff0b\uff20\uff0d]")
+# A German spreadsheet wants semicolons, and at the beginning a mark that it is UTF-8.
+MARK = "\ufeff"
 # A gear of the table: its short address, its random address, and its place or None.
 Row = dict[str, typing.Any]
 
@@ -114,15 +116,15 @@ def serial_text(serial: Row) -> str:
     return ", ".join(known + ([f"identification number {serial['identification']}"] if serial.get("identification") else []))
 
 
-def as_csv(them: list[Row], *before: str) -> str:
+def as_csv(them: list[Row], *before: str, is_german: bool = False) -> str:
     """A table as comma-separated values, with these columns before the others, and serial numbers behind them if any are known."""
     text, more = io.StringIO(), ("gtin", "identification") if any("gtin" in it for it in them) else ()
-    writer = csv.writer(text, lineterminator="\n")
+    writer = csv.writer(text, lineterminator="\n", delimiter=";" if is_german else ",")
     writer.writerow((*before, "address", "random", "place", *more))
     for it in them:
         serial = (it["gtin"], it["identification"] and HEXADECIMAL + it["identification"]) if more else ()
         writer.writerow((*(it[key] for key in before), it["address"], HEXADECIMAL + it["random"], safe(it["place"] or ""), *serial))
-    return text.getvalue()
+    return MARK * is_german + text.getvalue()
 
 
 def safe(text: str) -> str:
@@ -132,7 +134,7 @@ def safe(text: str) -> str:
 
 def of_csv(text: str) -> list[Row]:
     """The gear of a table that was written as comma-separated values, with places or without, also with random addresses as they are."""
-    rows = list(csv.DictReader(io.StringIO(text)))
+    rows = list(csv.DictReader(io.StringIO(text.removeprefix(MARK)), delimiter=";" if text.startswith(MARK) else ","))
     places = [it.get("place") or "" for it in rows]
     return [
         {"address": int(it["address"]), "random": it["random"].removeprefix(HEXADECIMAL), "place": (place[1:] if is_safe(place) else place) or None}

@@ -15,17 +15,20 @@ import secrets
 import signal
 import socket
 import threading
+import time
 import typing
 import urllib.request
 import webbrowser
 
-from yolgibat import ROOT, commanding, joining, places, standard, story, texts, viewer, walking
+from yolgibat import ROOT, command, commanding, joining, places, standard, story, texts, viewer, walking
 
 LOOPBACK = "127.0.0.1"
 PAGE = ROOT / "yolgibat/page.html"
 # How many bytes the target of a request may have, and its body; how many requests are answered at once, in how many seconds each.
 LONGEST, BODY, LANES, PATIENCE = 512, 8192, 32, 5
 NUMBER = re.compile("[0-9]{1,9}")
+# After how many seconds it is looked again whether a page is there.
+LOOKS = 0.2
 # An address that was kept: its port and its token.
 KEPT = re.compile(r"http://127\.0\.0\.1:([0-9]{1,5})/([A-Za-z0-9_-]{32})/")
 # Who may ask: a browser says where a request comes from.
@@ -95,22 +98,27 @@ def is_served(address: str) -> bool:
 
 
 def locked(file: pathlib.Path) -> typing.TextIO | None:
-    """Opens a file that one page alone may have, and which is still at its path then; or None, if another page is served."""
+    """Opens a file that one page alone may have, and which is still at its path then; or None, if another page is served. A command that an
+    earlier page began may keep it locked, too: the lock of a page is that of its process alone."""
     while True:
         opened = os.fdopen(os.open(file, os.O_RDWR | os.O_CREAT, 0o600), "r+", errors="replace")
         try:
-            fcntl.flock(opened, fcntl.LOCK_EX | fcntl.LOCK_NB)
-        except BlockingIOError:
+            fcntl.lockf(opened, fcntl.LOCK_EX | fcntl.LOCK_NB)
+            if os.path.exists(file) and os.path.samestat(os.fstat(opened.fileno()), os.stat(file)):
+                break
+        except OSError:
             address = opened.read()
             if is_served(address):
                 print(address, flush=True)
                 standard.say("a page is served over these records already, at this address")
                 return None
-            standard.say("a command that an earlier page began still works on the bus: this waits until it has ended")
-            fcntl.flock(opened, fcntl.LOCK_EX)
-        if os.path.exists(file) and os.path.samestat(os.fstat(opened.fileno()), os.stat(file)):
-            return opened
+            time.sleep(LOOKS)
         opened.close()
+    try:
+        fcntl.flock(opened, fcntl.LOCK_EX | fcntl.LOCK_NB)
+    except BlockingIOError:
+        standard.say("a command still works on the bus: this page follows it")
+    return opened
 
 
 def served(make: collections.abc.Callable[[int, str], "Server"], port: int, kept: Kept) -> "Server":
@@ -235,7 +243,7 @@ class Handler(http.server.BaseHTTPRequestHandler):
         except Refused as why:
             self.write(why.status, "text/plain", f"{why}\n", *why.more)
         except commanding.Bad as why:
-            self.write(400, "text/plain", f"{why}\n")
+            self.write(400, "text/plain", f"{self.said(str(why))}\n")
         except commanding.Busy as why:
             self.write(409, "text/plain", f"{why}\n", ("Why", "busy"))
         except walking.Moved as why:
@@ -311,6 +319,7 @@ class Handler(http.server.BaseHTTPRequestHandler):
         state, language = self.bus.state(), self.language()
         if state["command"]:
             state["command"]["told"] = [texts.told(it, language) for it in state["command"]["said"]]
+            state["command"]["reason"] = [*map(self.said, state["command"].get("reason", []))]
         state["trouble"] = "\n".join(map(self.said, (state["trouble"] or "").splitlines()))
         self.write(200, "application/json", json.dumps(state))
 
@@ -330,11 +339,11 @@ class Handler(http.server.BaseHTTPRequestHandler):
         self.write(200, "application/x-ndjson", came[1])
 
     def tell_csv(self) -> None:
-        self.write(200, "text/csv", self.bus.csv(), ("Content-Disposition", 'attachment; filename="luminaires.csv"'))
+        self.write(200, "text/csv", self.bus.csv(self.language() == command.GERMAN), ("Content-Disposition", 'attachment; filename="luminaires.csv"'))
 
     def do(self) -> None:
         asked = self.body()
-        self.bus.begin(asked.get("command"), asked.get("address"), asked.get("missing", []))
+        self.bus.begin(asked.get("command"), asked.get("address"), asked.get("missing", []), asked.get("expected"))
         self.tell_state()
 
     def walk(self) -> None:

@@ -15,7 +15,7 @@ VIEWER = ROOT / "yolgibat/viewer.html"
 # How many bytes a story has at most.
 LONGEST = 200_000_000
 # The sources that know all of a run, and the members that a line of theirs lacks all the same if they do not hold.
-KNOWING, IF_THEY_HOLD = ("script", "bench"), ("time", "trouble")
+KNOWING, IF_THEY_HOLD = ("script", "bench"), ("time", "trouble", "left_alone", "found")
 # The kinds of lines, by their first member; of an event the member `kind` says more, and of one that acted `order`.
 KINDS = {"story": "head", "line": "line", "event": "event", "finding": "finding", "end": "end"}
 # The types of JSON that are no list and no object.

@@ -8,7 +8,7 @@ import typing
 from yolgibat import ROOT
 
 if typing.TYPE_CHECKING:
-    from yolgibat import dump
+    from yolgibat import dump, following
 
 # A line of a program for its driver, and the driver's line without its line feed.
 PUT = re.compile(rb"put ([1-5]) ([0-9A-F]{4}) .*\n")
@@ -20,7 +20,7 @@ ALONE = {0xA1: "TERMINATE", 0xA7: "RANDOMISE", 0xA9: "COMPARE", 0xAB: "WITHDRAW"
 SEARCH = {0xB1: "SEARCHADDRH", 0xB3: "SEARCHADDRM", 0xB5: "SEARCHADDRL"}
 PARTS = {0xC2: "H", 0xC3: "M", 0xC4: "L"}
 # How a run that ended with such a status stands.
-STANDS = {0: "all-found", 6: "block-full", 7: "gave-up", 8: "halt-conflict", 13: "all-found", 15: "all-found"}
+STANDS = {0: "all-found", 6: "block-full", 7: "gave-up", 8: "halt-conflict", 13: "left-alone", 15: "unclear"}
 # What a finding says, by its name, with its source behind it: the help of ./dali_sim audit, in which a text may go on in lines further in.
 HELP, GOES_ON = ROOT / "yolgibat/help/dali_sim-audit.txt", re.compile(r"\n {24}(?=\S)")
 FINDING = re.compile(r"^  ([a-z-]+) +((?:is|tells) .*) \((?:10[12],|profile).*\)$", re.M)
@@ -68,11 +68,14 @@ class Run:
     """What a driver tells of a run of one controller, as a story that is written to a file, and as a dump to another one, event by event.
 
     story, trace  the files, each None if none is wanted
+    view          what shows how far the run is, if anything does
     faults        what was wrong with a file, by its name: nothing more was written to it then
     """
 
-    def __init__(self, story: typing.BinaryIO | None = None, trace: typing.BinaryIO | None = None) -> None:
-        self.story, self.trace, self.faults = story, trace, {}
+    def __init__(
+        self, story: typing.BinaryIO | None = None, trace: typing.BinaryIO | None = None, view: "following.View | None" = None
+    ) -> None:
+        self.story, self.trace, self.view, self.faults = story, trace, view, {}
         self.dump, self.begun, self.waiting = dumped() if trace else None, time.monotonic(), None
         # How many events, transactions and frames there were, how many frames the running transaction has, and the bit times of all.
         self.events, self.transactions, self.frames, self.place, self.bits = 0, 0, 0, 0, 0
@@ -94,6 +97,8 @@ class Run:
                 self.dump.asked[0] = priority
                 self.dump.take(event)
             self.write_trace()
+            if self.view:
+                self.view.take(event)
 
     def event(self, priority: int, frame: int, at: int, answer: str) -> dict[str, typing.Any]:
         """The event that an answer tells of."""
@@ -112,12 +117,12 @@ class Run:
             self.bits += FORWARD if answer == "silence" else FORWARD + BACKWARD
         return event | ({"heard": answer.removeprefix("byte ").upper() if answer.startswith("byte") else answer} if is_whole else {"trouble": answer})
 
-    def end(self, status: int | None) -> None:
-        """Nothing more comes: a `run` has ended with this status, or something else."""
+    def end(self, status: int | None, left_alone: list[int] = ()) -> None:
+        """Nothing more comes: a `run` has ended with this status, and left these short addresses alone, or something else has."""
         if self.dump:
             self.dump.end()
         self.write_trace()
-        stands = {"stands": [STANDS[status]]} if status in STANDS else {}
+        stands = {"stands": [STANDS[status]]} | ({"left_alone": left_alone} if left_alone else {}) if status in STANDS else {}
         self.write("story", line_of({"end": True, **stands, "frames": self.frames, "bits": self.bits}))
 
     def write_trace(self) -> None:
@@ -174,4 +179,6 @@ def capture_story(items: str, told: dict[str, typing.Any]) -> str:
         lines += [event, *behind.get(event["event"], [])]
     heard = sum(it["kind"] == "sent" and it["heard"] != "silence" for it in events)
     sent, foreign = (sum(it["kind"] == kind for it in events) for kind in ("sent", "foreign"))
-    return "".join(map(line_of, [*lines, {"end": True, "frames": len(events) - foreign, "bits": FORWARD * sent + BACKWARD * heard}]))
+    found = [{key: it[key] for key in ("short", "random", "known")} for it in told["gear"] if it["known"] != "unknown"]
+    end = {"end": True, "frames": len(events) - foreign, "bits": FORWARD * sent + BACKWARD * heard, "found": found}
+    return "".join(map(line_of, [*lines, end]))

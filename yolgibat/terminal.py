@@ -21,12 +21,9 @@ import pathlib
 import select
 import subprocess
 
-from yolgibat import joining, places, programs, serials, standard
+from yolgibat import command, joining, places, programs, serials, standard, texts
 
 NOBODY = 10
-COMMANDS = """Type where each luminaire hangs, or nothing to leave it as it is.
-/again blinks anew, /later puts it behind all others, /back goes back to the one before, /end ends the walk, /help says this.
-"""
 
 
 def table_of(program: str, chosen: argparse.Namespace) -> tuple[list[places.Row], int]:
@@ -45,11 +42,13 @@ class Walk:
 
     def run(self) -> int:
         """The status: 0, or that of the program if the driver or the output is at fault."""
-        standard.write(COMMANDS)
+        self.say_commands()
         while self.left:
             it = self.left[0]
             text = f" [{it['place']}]" if it["place"] else ""
-            standard.write(f"{it['address']} {it['random']} blinks, {len(self.left)} left. Where does it hang?{text} ")
+            left = sum(not one["place"] for one in self.left)
+            asked = {"address": it["address"], "random": it["random"], "left": left}
+            standard.write(texts.text("walk:asks", standard.spoken, **asked) + f"{text} ")
             line, status = self.line_beside(it["address"])
             if status or line in (None, "/end"):
                 return status
@@ -67,7 +66,10 @@ class Walk:
             if line:
                 it["place"] = places.note(self.file, it["random"], line)
         elif line not in ("/again", "/back"):
-            standard.write(COMMANDS)
+            self.say_commands()
+
+    def say_commands(self) -> None:
+        standard.write(texts.text("walk:commands", standard.spoken) + "\n")
 
     def line_beside(self, address: int) -> tuple[str | None, int]:
         """The line that is typed while a luminaire blinks, None at the end of the input; and its status, where it ended ill."""
@@ -145,5 +147,6 @@ def main(chosen: argparse.Namespace) -> int:
     rows = places.rows(table, places.read(file), serials.read(serials.file_of(chosen.records)))
     if chosen.task == "identify":
         return walks(program, chosen, rows, file)
-    form = places.as_csv if chosen.csv else places.as_json if chosen.json else places.as_text
-    return standard.ended(form(rows), 0)
+    if chosen.csv:
+        return standard.ended(places.as_csv(rows, is_german=chosen.csv == command.GERMAN), 0)
+    return standard.ended((places.as_json if chosen.json else places.as_text)(rows), 0)

@@ -52,6 +52,8 @@ def results(told: story.Story) -> list[str]:
     found, end = [told.cut] if told.cut else [], told.end or {}
     for number, stands in enumerate(end.get("stands", [])):
         found.append(f"controller {number}: {stands}: {story.templates().get(f'stands:{stands}', '')}".removesuffix(": "))
+    if end.get("left_alone"):
+        found.append(f"short addresses that were left alone: {', '.join(map(str, end['left_alone']))}")
     if "gear" in end:
         found.append(f"{sum(it['short'] is not None for it in end['gear'])} of {len(end['gear'])} gear have a short address")
     if "frames" in end:
@@ -79,9 +81,10 @@ def gear_of(end: story.Line) -> list[str]:
 
 
 def tables_of(end: story.Line) -> list[str]:
-    """The tables of the controllers, if there are any."""
+    """The tables of the controllers, or the gear that a capture reveals, if there are any."""
     rows = [[it["controller"], entry["short"], entry["random"]] for it in end.get("tables", []) for entry in it["entries"]]
-    return ["<h2>Tables of the controllers</h2>\n", table(("controller", "short", "random"), rows)] if rows else []
+    found = [[it["short"], it["random"], it["known"]] for it in end.get("found", [])]
+    return ["<h2>Gear that the capture reveals</h2>\n", table(("short", "random", "known"), found)] if found else ["<h2>Tables of the controllers</h2>\n", table(("controller", "short", "random"), rows)] if rows else []
 
 
 def events_of(told: story.Story) -> list[str]:

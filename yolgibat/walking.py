@@ -31,9 +31,10 @@ def addresses_of(text: object) -> list[int]:
     for word in re.split(r"[\s,;]+", text.strip()) if isinstance(text, str) and text.strip() else []:
         it = ORDER.fullmatch(word)
         first, last = (int(it[1]), int(it[2] or it[1])) if it else (0, 99)
-        if not first <= last <= 63:
-            raise commanding.Bad("an order is short addresses and ranges of them, as 12 5 7-9")
-        found += [at for at in range(first, last + 1) if at not in found]
+        if max(first, last) > 63:
+            raise commanding.Bad(f"'{word}' is no short address and no range of them, as 7-9 or 18-15")
+        step = 1 if first <= last else -1
+        found += [at for at in range(first, last + step, step) if at not in found]
     return found
 
 

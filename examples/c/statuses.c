@@ -68,7 +68,7 @@ static void check_layouts(void)
     CHECK_LAYOUT(dali_told, 8);
     CHECK_LAYOUT(dali_window, 16);
     CHECK_LAYOUT(dali_heard, 3);
-    check(sizeof(struct dali_port) == 112 && sizeof(struct dali_event) == 16, "the size of a port and its event");
+    check(sizeof(struct dali_port) == 104 && sizeof(struct dali_event) == 16, "the size of a port and its event");
 }
 
 static struct dali_record record_of(uint8_t kind, uint8_t short_address, uint32_t random_address)
@@ -625,10 +625,6 @@ static void reach_port(void)
     uint32_t now = UINT32_C(0xFFFFFFFF) - 9000;
     uint8_t was_low = 0;
 
-    memset(&port, UNTOUCHED, sizeof port);
-    before = port;
-    for (uint32_t call = 0; call < 4; call++)
-        check_port(port_call(&port, call, 0, now, &order, &event), DALI_BAD_ARGUMENT, &port, &before, &event, "a port that is none");
     check(dali_port_new(&port, 2, now, &event) == DALI_BAD_ARGUMENT, "a level that is none");
     check(dali_port_new(&port, 0, now, &event) == DALI_OK, "the status of dali_port_new");
     before = port;
@@ -674,11 +670,8 @@ static void try_port(uint64_t *chance)
     port.priority %= 7;
     port.half %= 4;
     port.phase %= 6;
-    port.receiver.reading %= 6;
-    port.receiver.is_low %= 2;
-    port.window.receiver.reading %= 5;
-    port.window.receiver.is_low %= 2;
-    port.window.heard = (uint8_t)(1 + port.window.heard % 8);
+    port.reading %= 6;
+    port.heard %= 4;
     before = port;
     status = port_call(&port, chance_below(chance, 4), (uint8_t)chance_below(chance, 2), (uint32_t)port.called + chance_below(chance, 100000), &order,
                        &event);

@@ -2,7 +2,7 @@
 #include "node.h"
 
 /* How often each gear of the table is asked at last, if none answers. */
-#define ROUNDS 3
+#define ROUNDS UINT32_C(3)
 /* What tells the first byte of a random address. */
 #define QUERY_RANDOM_ADDRESS_H 0xC2
 

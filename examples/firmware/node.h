@@ -26,7 +26,7 @@ struct node {
     struct pages pages;
     struct dali_passes passes;
     /* How often gear of the table were asked since the last run, and whether one is asked now. */
-    int asked;
+    uint32_t asked;
     int is_asking;
     /* How many frames were put since it began. */
     uint32_t frames;

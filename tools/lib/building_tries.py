@@ -359,9 +359,15 @@ def search_in(checks: Checks, tab: browser.Tab, address: str, width: int, buses:
     seconds = time.monotonic() - begun
     took = tab.value(SEARCH % SEARCHED)
     rows, found = tab.value("[[...document.querySelectorAll('#rows tr')].map(it => it.innerText), matches(wanted()).length]")
-    wanted = ["Floor 7, room 12, desk" in it for it in rows]
-    is_first = wanted == sorted(wanted, reverse=True) and sum(wanted) == 8 and len(rows) == min(found, 100)
-    checks.say(is_first, f"luminaires are found by their places: {found}, {rows[:3]}")
+    checks.say((len(rows), found) == (8, 8) and all("Floor 7, room 12, desk" in it for it in rows), f"luminaires are found by their places: {found}, {rows[:3]}")
+    buttons = "['run', 'check'].map(it => document.getElementById(it).textContent)"
+    tab.click("#check")
+    once = tab.value(f"[{buttons}, state.buses.filter(it => it.is === 'busy').length]")
+    checks.same(once, [["Run (buses: 1)", "Check (buses: 1): press once more"], 0], "what works on what is found asks once more, with the count")
+    for text, count in ((":7", buses), ("room 1", 8 * buses // 8), ("desk 3 :2", buses), ("tower 7", 0 if buses < 7 else 512), (":64", 0)):
+        tab.value(SEARCH % text)
+        checks.same(tab.value("matches(wanted()).length"), count, f"what is found for {text!r}")
+    checks.same(tab.value(buttons)[1].count("once more"), 0, "and no more if something else is searched for")
     tab.value(SEARCH % "attic")
     checks.same(tab.value("[...document.querySelectorAll('#rows i')].length"), 0, "a place is text and nothing else")
     wide = tab.value("document.documentElement.scrollWidth")

@@ -220,7 +220,7 @@ class Clone:
         for name, text in KIT.items():
             self.put(room / "bin" / name, text)
         path = f"{room / 'bin'}:{os.environ['PATH']}"
-        self.env = dict(os.environ, PATH=path, PROGRAM=str(self.put(room / "program", PROGRAM)))
+        self.env = dict(os.environ, LC_ALL="C.UTF-8", PATH=path, PROGRAM=str(self.put(room / "program", PROGRAM)))
 
     def put(self, file: pathlib.Path, text: str) -> pathlib.Path:
         file.parent.mkdir(parents=True, exist_ok=True)

@@ -95,6 +95,7 @@ ITEMS = """
 FOUND = {
     "findings": [{"at": 204000, "kind": "unasked-answer"}, {"at": 320000, "kind": "settling-time"}, {"at": 300000, "kind": "half-pair"}],
     "other_answer": 100000,
+    "gear": [{"short": 0, "random": "123456", "known": "verified"}, {"short": 1, "random": None, "known": "answered"}, {"short": 2, "random": None, "known": "unknown"}],
 }
 CAPTURE = """
 sent COMPARE (A900); heard damaged

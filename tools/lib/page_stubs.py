@@ -27,7 +27,7 @@ class Room:
         self.bus.write_text(json.dumps(gear))
         if records is not None:
             self.records.write_text(json.dumps(records))
-        self.env = dict(os.environ, BUS=str(self.bus))
+        self.env = dict(os.environ, LC_ALL="C.UTF-8", BUS=str(self.bus))
         # While it is there a command of the stub does not end.
         self.hold = self.folder / "hold"
 

@@ -29,6 +29,7 @@ ENUMS = {
     "Input": (ORDERS, CODES),
     "Kind": ("crates/dali_audit/src/findings.rt",),
     "KeepError": ("crates/dali_reserve/src/error.rt",),
+    "MendRefusal": ("crates/dali_commission_said/src/failure.rt",),
     "Order": (ORDERS,),
     "Outside": ("crates/dali_events/src/event.rt",),
     "Outcome": ("crates/dali_line/src/outcome.rt", "crates/dali_threads/src/report.rt"),
@@ -39,6 +40,7 @@ ENUMS = {
     "ReplaceRefusal": ("crates/dali_replacement/src/refusal.rt",),
     "ReplayFault": ("crates/dali_grammar/src/fault.rt",),
     "Report": ("crates/dali_standing/src/report.rt",),
+    "Said": (SAID,),
     "SiteLine": ("crates/dali_grammar/src/site_line.rt",),
     "StoreFault": ("crates/dali_commission_said/src/failure.rt",),
     "ThreadsFault": ("crates/dali_threads/src/setup.rt",),
@@ -87,7 +89,7 @@ FORMAT, INSTALLER, VENDOR, ADAPTERS = "docs/FORMAT.md", "docs/INSTALLER.md", "do
 REPLAY, THREADS, FORMS = "tools/lib/replay_report.py", "tools/lib/threads_report.py", "tools/lib/script_forms.py"
 SITE, LIBRARY = "tools/lib/commission_site.py", "tools/check/c-library"
 SCHEMA, VIEWER = "docs/story.schema.json", "yolgibat/viewer.html"
-GERMAN = "yolgibat/texts/said/de.json"
+TEXTS = "yolgibat/texts.json"
 LINES, MISTAKES = "crates/dali_grammar/src/reason/forms.rt", "crates/dali_grammar/src/reason/mistake.rt"
 # The inputs that do not tell what became of a frame; how it was heard is an answer.
 NOT_OF_FRAMES = "Start Survey Heard Committed CommitFailed"
@@ -206,11 +208,18 @@ PLACES = (
     Place(VIEWER, block('id="words"', "</script>"), "Input", '"told:{kebab}', "Heard"),
     Place(VIEWER, block('id="words"', "</script>"), "End", '"stands:{name}":'),
     Place(VIEWER, block('id="words"', "</script>"), "Fault", '"stands:halt-{name}":'),
-    # What the page says in German of what the program says.
-    Place(GERMAN, WHOLE, "Place", '{name}":', "NotAsked Nobody Another"),
-    Place(GERMAN, WHOLE, "DriverFault", '"{name}":', "Memory"),
-    Place(GERMAN, WHOLE, "StoreFault", '"{name}":', "Store System"),
-    Place(GERMAN, WHOLE, "ReplaceRefusal", '"{name}":'),
+    # The list of texts: each line of the program by its name, and in its words.
+    Place(TEXTS, WHOLE, "Said", '"Said::{Name}', "At Mended Why"),
+    Place(TEXTS, WHOLE, "Said", '["{name}",', "Far At Advice Wrote Mended HasLost ConflictAdvice Why"),
+    Place(TEXTS, WHOLE, "Failure", '"Failure::{Name}', "Console Store"),
+    Place(TEXTS, WHOLE, "Failure", '["{name}",', "Console Store NotReplaced"),
+    Place(TEXTS, WHOLE, "Place", '"Place::{Name}"', "NotAsked Nobody"),
+    Place(TEXTS, WHOLE, "Place", '{name}",', "NotAsked Nobody Another"),
+    Place(TEXTS, WHOLE, "DriverFault", '"DriverFault::{Name}": ["{name}",', "Memory"),
+    Place(TEXTS, WHOLE, "StoreFault", '"StoreFault::{Name}": ["{name}",', "Store"),
+    Place(TEXTS, WHOLE, "KeepError", '"KeepError::{Name}": ["{name}",'),
+    Place(TEXTS, WHOLE, "MendRefusal", '"MendRefusal::{Name}": ["{name}",'),
+    Place(TEXTS, WHOLE, "ReplaceRefusal", '"ReplaceRefusal::{Name}": ["{name}",'),
     # The scripts of tools/.
     Place(REPLAY, line("ANSWER ="), "Answer", "{kebab}"),
     Place(REPLAY, line("COMMIT ="), "Record", "{name}"),
@@ -230,7 +239,7 @@ PLACES = (
 
 def variants(text: str, name: str) -> list[str]:
     """The variants of an enum in a file of code."""
-    found = re.search(rf"^pub enum {name} \{{\n(.*?)^\}}", re.sub(r"//.*", "", text), re.M | re.S)
+    found = re.search(rf"^pub enum {name}(?:<[^>]*>)? \{{\n(.*?)^\}}", re.sub(r"//.*", "", text), re.M | re.S)
     return re.findall(r"^    (\w+)", found[1], re.M) if found else []
 
 

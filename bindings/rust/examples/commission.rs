@@ -1,9 +1,11 @@
 //! Commissions simulated gear until the controller is ready: `cargo run --example commission -- GEAR SEED`.
 
-use dali_c::{levels, Input, Machine, Next, OrderKind, Passes, Receiver, FrameKind, Record, Records, Window};
+use dali_c::{levels, End, Input, Machine, Next, OrderKind, Passes, Receiver, FrameKind, Record, Records, Window};
 
 const MASK24: u32 = 0xFF_FFFF;
 const MOST_STEPS: u32 = 100_000;
+/// From which step on the first run is ended early. Another one goes on from its records.
+const STOP: u32 = 300;
 
 #[derive(Clone, Copy, PartialEq)]
 enum State {
@@ -120,8 +122,9 @@ fn main() {
     let mut passes = Passes::new();
     let mut input = Input::Survey;
     let mut next = Next::Order;
-    for _ in 0..MOST_STEPS {
-        let order = machine.step(input).unwrap();
+    let mut is_first = true;
+    for step in 0..MOST_STEPS {
+        let order = if is_first && step >= STOP { machine.stop(input) } else { machine.step(input) }.unwrap();
         assert_eq!(machine.progress().unwrap().gear as usize, machine.records().unwrap().enrolled().len());
         next = passes.step(input, &order).unwrap();
         input = match order.kind() {
@@ -134,7 +137,13 @@ fn main() {
                 records.add(&record).unwrap();
                 Input::Committed
             }
+            OrderKind::Done(End::GaveUp) if is_first => {
+                assert!(records.reserved().iter().all(|it| records.enrolled().contains(it)), "a gear is left reserved");
+                (is_first, machine, passes) = (false, Machine::new(&records).unwrap(), Passes::new());
+                Input::Survey
+            }
             _ if next == Next::Run => {
+                is_first = false;
                 assert!(machine.records().unwrap() == records);
                 machine = Machine::new(&records).unwrap();
                 Input::Survey

@@ -11,7 +11,7 @@ use core::mem::MaybeUninit;
 pub use sys::{dali_pair as Pair, dali_random as Random, dali_record as Record};
 
 /// `DALI_C_VERSION` of the header that these types are of.
-pub const VERSION: u8 = 105;
+pub const VERSION: u8 = 106;
 
 /// The kinds of a record: `DALI_RESERVE`, `DALI_ENROL`, `DALI_RELEASE`.
 pub const RECORD_KINDS: [u8; 3] = [1, 2, 3];

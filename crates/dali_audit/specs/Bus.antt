@@ -182,6 +182,12 @@ is_all All = true
 is_all (Addressed a) = false
 is_all Unaddressed = false
 
+-- and one that names gear without a short address lets these be searched
+abbrev pub names_unaddressed : Target → Bool
+names_unaddressed All = true
+names_unaddressed Unaddressed = true
+names_unaddressed (Addressed a) = false
+
 abbrev pub begins : Item → Begun
 begins x = record { at = x.at; until = x.until; is_told = false }
 
@@ -192,6 +198,7 @@ begun_by target again second x b = record b {
   is_closed = b.is_closed && not again;
   may_redraw = b.may_redraw || (second && names_addressed target);
   takes_all = b.takes_all || (second && is_all target);
+  cut = if names_unaddressed target then None else b.cut;
 }
 
 abbrev pub drawn_by : Bool → Item → Bus → Bus
@@ -203,6 +210,15 @@ drawn_by second x b = record b {
 
 abbrev pub heard_by : Answer → Bus → Bus
 heard_by heard b = record b { crowded = crowd heard (number b.search) b.crowded }
+
+-- COMPARE AFTER TERMINATE: the silence after it does not say that no gear is left
+abbrev pub misled : Bool → ℕ → Answer → Option ℕ → Option ℕ
+misled true at answer.Silence None = Some at
+misled closed at heard cut = cut
+
+abbrev pub compared_by : Item → Answer → Bus → Bus
+compared_by x heard b =
+    record (heard_by heard b) { cut = misled b.is_closed x.at heard b.cut }
 
 abbrev pub searched_by : Part → ℕ → Search → Search
 searched_by High byte s = record s { high = Some byte }
@@ -221,7 +237,7 @@ sent_by Terminate again second x heard b =
     record b { begun = None; is_closed = true; may_redraw = false; takes_all = false }
 sent_by (Initialise target) again second x heard b = begun_by target again second x b
 sent_by Randomise again second x heard b = drawn_by second x b
-sent_by Compare again second x heard b = heard_by heard b
+sent_by Compare again second x heard b = compared_by x heard b
 sent_by Withdraw again second x heard b = b
 sent_by (SearchHigh byte) again second x heard b = searches High byte b
 sent_by (SearchMiddle byte) again second x heard b = searches Middle byte b
@@ -267,6 +283,7 @@ bus_at_first = record {
   spelled = spelled.Nothing;
   may_redraw = true;
   takes_all = false;
+  cut = None;
   dtr0 = None;
 }
 

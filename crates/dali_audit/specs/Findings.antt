@@ -4,7 +4,6 @@ use Rattle.std.specs.Prelude.{Option, Some, None, if◌then◌else◌, List, [],
 use Rattle.std.specs.Prelude.{option_map, option_to_list}
 use Rattle.std.specs.List.{list_any}
 use Rattle.dali_frame.specs.declared.frames.Forward.{Forward}
-use Rattle.dali_frame.specs.declared.frames.Answer.{Answer}
 use Rattle.dali_frame.specs.declared.frames.Answer.TheVariants as answer
 use Rattle.dali_special.specs.declared.command.Command.{Command}
 use Rattle.dali_special.specs.declared.command.Command.TheVariants.{Terminate, Initialise}
@@ -57,6 +56,7 @@ kind_name kind.Redrawn = codes "redrawn"
 kind_name kind.NotAnAddress = codes "not-an-address"
 kind_name kind.ResetOfAll = codes "reset-of-all"
 kind_name kind.SetForAll = codes "set-for-all"
+kind_name kind.CutOff = codes "cut-off"
 kind_name kind.NotTerminated = codes "not-terminated"
 
 abbrev pub kinds : List Kind
@@ -65,7 +65,8 @@ kinds =
     ∷ kind.SettlingTime ∷ kind.HalfPair ∷ kind.LatePair ∷ kind.EarlyFrame ∷ kind.InitialisationOver
     ∷ kind.NotQueried ∷ kind.NotFound ∷ kind.SeveralProgrammed ∷ kind.AddressTaken
     ∷ kind.AddressMoved ∷ kind.TwoRandomAddresses ∷ kind.TwoShortAddresses ∷ kind.Redrawn
-    ∷ kind.NotAnAddress ∷ kind.ResetOfAll ∷ kind.SetForAll ∷ kind.NotTerminated ∷ []
+    ∷ kind.NotAnAddress ∷ kind.ResetOfAll ∷ kind.SetForAll ∷ kind.CutOff ∷ kind.NotTerminated
+    ∷ []
 
 -- THE RULES, each with the time that is told if an item breaks it.
 
@@ -237,9 +238,14 @@ unfound (Some r) k = is_some k.bus.begun && not (is_found k.found k.table r)
 abbrev pub not_found : Known → Change → Bool
 not_found k c = unfound (programs_at c) k
 
--- and where one gear is (102, PROGRAM SHORT ADDRESS)
-abbrev pub several_programmed : Bus → Change → Bool
-several_programmed b c = is_some (programs_at c) && is_crowded b
+-- and where one gear is (102, PROGRAM SHORT ADDRESS). One damaged answer may come of a disturbance,
+-- or of edges out of the standard: several gear answer the question before it and that after it
+abbrev pub several_by : Bus → Command → Option ℕ
+several_by b c = if asks_short c && is_crowded b then b.given else None
+
+abbrev pub several_programmed : Bus → Seen → Option ℕ
+several_programmed b (seen.Sent f answer.Damaged) = several_by b (command_of f)
+several_programmed b _ = None
 
 -- a short address is given under which no other gear was heard
 abbrev pub address_taken : List Holder → Change → Bool
@@ -362,8 +368,7 @@ told_at kind.EarlyFrame k x s = early_frame k.bus x s
 told_at kind.InitialisationOver k x s = initialisation_over k.bus x s
 told_at kind.NotQueried k x s = not_queried k.bus s
 told_at kind.NotFound k x s = at_where (not_found k (change_of k.bus x s)) x.at
-told_at kind.SeveralProgrammed k x s =
-    at_where (several_programmed k.bus (change_of k.bus x s)) x.at
+told_at kind.SeveralProgrammed k x s = several_programmed k.bus s
 told_at kind.AddressTaken k x s = at_where (address_taken k.table (change_of k.bus x s)) x.at
 told_at kind.AddressMoved k x s = at_where (address_moved k.table (change_of k.bus x s)) x.at
 told_at kind.TwoRandomAddresses k x s = at_where (two_random k.table (change_of k.bus x s)) x.at
@@ -372,6 +377,7 @@ told_at kind.Redrawn k x s = at_where (redraws k (change_of k.bus x s)) x.at
 told_at kind.NotAnAddress k x s = not_an_address x s
 told_at kind.ResetOfAll k x s = reset_of_all x s
 told_at kind.SetForAll k x s = set_for_all k.bus x s
+told_at kind.CutOff k x s = None
 told_at kind.NotTerminated k x s = None
 
 -- WHAT IS TOLD OF AN ITEM: each rule that it breaks
@@ -407,8 +413,14 @@ abbrev pub first_of : List Item → Option Item
 first_of [] = None
 first_of (x ∷ xs) = Some x
 
+-- when it ends: that a search was cut off, and no other one followed, and that an initialisation
+-- has no end. A controller that sends COMPARE after the TERMINATE of another one takes it that no
+-- gear is left (this project's profile).
+abbrev pub told_of_end : Bus → List Finding
+told_of_end b = told_by kind.CutOff b.cut ++ told_by kind.NotTerminated (not_terminated b)
+
 abbrev pub findings_from : Known → Option Item → List Item → List Finding
-findings_from k before [] = told_by kind.NotTerminated (not_terminated k.bus)
+findings_from k before [] = told_of_end k.bus
 findings_from k before (x ∷ xs) =
     told_of k x (seen_of before x (first_of xs)) kinds
     ++ findings_from (known_after x (seen_of before x (first_of xs)) k) (Some x) xs

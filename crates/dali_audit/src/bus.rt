@@ -5,7 +5,7 @@ ghost use Rattle.dali_audit.specs.Bus.{same_frame, number, is_addressing, in_ini
 ghost use Rattle.dali_audit.specs.Bus.{completes, bus_at_first, half_after, is_over, begun_after, begins, crowd};
 ghost use Rattle.dali_audit.specs.Bus.{is_crowded, high_heard, middle_heard, byte_heard, names_addressed, begun_by};
 ghost use Rattle.dali_audit.specs.Bus.{drawn_by, heard_by, searched_by, searches, sent_by, unless_addressing, passed};
-ghost use Rattle.dali_audit.specs.Bus.{acts, unless_acting, is_all, dtr0_after};
+ghost use Rattle.dali_audit.specs.Bus.{acts, unless_acting, is_all, dtr0_after, names_unaddressed, misled, compared_by};
 ghost use Rattle.dali_special.specs.Command.{command_of};
 ghost use Rattle.dali_audit.specs.Bus.{bus_heard, frame_end, bus_after};
 
@@ -84,6 +84,8 @@ pub struct Bus {
     pub may_redraw: bool,
     /// Whether all gear do, by INITIALISE.
     pub takes_all: bool,
+    /// When COMPARE was sent first after TERMINATE, and silence was heard, if no search can have begun anew since.
+    pub cut: Option<u64>,
     /// What was sent for DTR0 last.
     pub dtr0: Option<u8>,
 }
@@ -208,6 +210,15 @@ fn is_all(target: Target) -> bool
     }
 }
 
+fn names_unaddressed(target: Target) -> bool
+    ensures { result ≡ names_unaddressed target }
+{
+    match target {
+        Target::All | Target::Unaddressed => true,
+        Target::Addressed(_) => false,
+    }
+}
+
 fn begins(item: &Item) -> Begun
     ensures { result ≡ begins item.now }
 {
@@ -287,6 +298,7 @@ impl Bus {
             spelled: Spelled::Nothing,
             may_redraw: true,
             takes_all: false,
+            cut: None,
             dtr0: None,
         }
     }
@@ -392,6 +404,11 @@ impl Bus {
             is_closed: self.is_closed && !is_again,
             may_redraw: self.may_redraw || (is_second && names_addressed(target)),
             takes_all: self.takes_all || (is_second && is_all(target)),
+            cut: if names_unaddressed(target) {
+                None
+            } else {
+                self.cut
+            },
             ..*self
         }
     }
@@ -438,6 +455,25 @@ impl Bus {
         }
     }
 
+    /// Since when the silence after COMPARE does not say that no gear is left.
+    fn misled(&self, item: &Item, answer: Answer) -> Option<u64>
+        ensures { result ≡ misled self.now.is_closed item.now.at answer self.now.cut }
+    {
+        match answer {
+            Answer::Silence if self.is_closed && self.cut.is_none() => Some(item.at),
+            Answer::Silence | Answer::Damaged | Answer::Byte(_) => self.cut,
+        }
+    }
+
+    fn compared(&self, item: &Item, answer: Answer) -> Bus
+        ensures { result ≡ compared_by item.now answer self.now }
+    {
+        Bus {
+            cut: self.misled(item, answer),
+            ..self.heard(answer)
+        }
+    }
+
     fn searched(&self, part: Part, byte: u8) -> Bus
         ensures { result ≡ searches part byte self.now }
     {
@@ -479,7 +515,8 @@ impl Bus {
             },
             Command::Initialise(target) => self.initialised(target, is_again, is_second, item),
             Command::Randomise => self.randomised(is_second, item),
-            Command::Compare | Command::QueryShort => self.heard(answer),
+            Command::Compare => self.compared(item, answer),
+            Command::QueryShort => self.heard(answer),
             Command::SearchHigh(byte) => self.searched(Part::High, byte),
             Command::SearchMiddle(byte) => self.searched(Part::Middle, byte),
             Command::SearchLow(byte) => self.searched(Part::Low, byte),

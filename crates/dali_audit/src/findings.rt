@@ -28,7 +28,7 @@ pub enum Kind {
     NotQueried,
     /// PROGRAM SHORT ADDRESS at a search address at which no gear answered.
     NotFound,
-    /// PROGRAM SHORT ADDRESS at a search address under which several gear were heard.
+    /// PROGRAM SHORT ADDRESS at a search address under which several gear were heard, as after it.
     SeveralProgrammed,
     /// PROGRAM SHORT ADDRESS of an address under which another gear was heard.
     AddressTaken,
@@ -46,12 +46,14 @@ pub enum Kind {
     ResetOfAll,
     /// SET SHORT ADDRESS to all gear.
     SetForAll,
+    /// COMPARE after TERMINATE, heard as silence, and no search begins anew until the capture ends.
+    CutOff,
     /// INITIALISE, and no TERMINATE until the capture ends.
     NotTerminated,
 }
 
-/// All of them, in the order in which they are told of one item; the last one is told of the end alone.
-pub const KINDS: [Kind; 21] = [
+/// All of them, in the order in which they are told of one item; the last two are told of the end alone.
+pub const KINDS: [Kind; 22] = [
     Kind::DamagedFrame,
     Kind::DamagedAnswer,
     Kind::UnaskedAnswer,
@@ -72,6 +74,7 @@ pub const KINDS: [Kind; 21] = [
     Kind::NotAnAddress,
     Kind::ResetOfAll,
     Kind::SetForAll,
+    Kind::CutOff,
     Kind::NotTerminated,
 ];
 
@@ -101,6 +104,7 @@ impl Kind {
             Kind::NotAnAddress => "not-an-address",
             Kind::ResetOfAll => "reset-of-all",
             Kind::SetForAll => "set-for-all",
+            Kind::CutOff => "cut-off",
             Kind::NotTerminated => "not-terminated",
         }
     }

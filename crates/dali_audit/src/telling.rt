@@ -6,12 +6,11 @@ ghost use Rattle.dali_audit.specs.Findings.{not_initialised, asks_initialised, t
 ghost use Rattle.dali_audit.specs.Findings.{initialisation_over, asks_short, needs_search};
 ghost use Rattle.dali_audit.specs.Findings.{not_queried, unasked_by, programs_at, is_found, not_found};
 ghost use Rattle.dali_audit.specs.Findings.{several_programmed, address_taken, address_moved, not_terminated};
-ghost use Rattle.dali_audit.specs.Findings.{two_random, two_short, told_at, told_of, told_by, found_at, known_after};
-ghost use Rattle.dali_audit.specs.Findings.{breaks, known_at_first, redraws, is_misspelled, not_an_address};
-ghost use Rattle.dali_audit.specs.Findings.{is_to_all, erases, reset_of_all, set_for_all};
+ghost use Rattle.dali_audit.specs.Findings.{two_random, two_short, told_at, told_of, told_of_end, found_at};
+ghost use Rattle.dali_audit.specs.Findings.{breaks, known_at_first, known_after, redraws, is_misspelled};
+ghost use Rattle.dali_audit.specs.Findings.{not_an_address, is_to_all, erases, reset_of_all, set_for_all};
 ghost use Rattle.dali_audit.specs.Holders.{change_of};
 ghost use Rattle.dali_special.specs.Command.{command_of};
-ghost use Rattle.dali_audit.specs.declared.findings.Kind.TheVariants as kind;
 
 use crate::bus::{Bus, acts, in_initialisation, is_addressing, same_frame};
 use crate::findings::{Finding, Kind};
@@ -240,10 +239,19 @@ fn programs_at(change: &Change) -> Option<Random24>
     }
 }
 
-fn several_programmed(bus: &Bus, change: &Change) -> bool
-    ensures { result ≡ several_programmed bus.now change.now }
+fn several_programmed(bus: &Bus, seen: Seen) -> Option<u64>
+    ensures { result ≡ several_programmed bus.now seen }
 {
-    programs_at(change).is_some() && bus.is_crowded()
+    match seen {
+        Seen::Sent(frame, Answer::Damaged) => {
+            if asks_short(&Command::read(frame)) && bus.is_crowded() {
+                bus.given
+            } else {
+                None
+            }
+        }
+        _ => None,
+    }
 }
 
 /// The search address at which gear answer a question.
@@ -468,10 +476,7 @@ impl Known {
                 let change = self.change(item, seen);
                 at_where(self.not_found(&change), item.at)
             }
-            Kind::SeveralProgrammed => {
-                let change = self.change(item, seen);
-                at_where(several_programmed(&self.bus, &change), item.at)
-            }
+            Kind::SeveralProgrammed => several_programmed(&self.bus, seen),
             Kind::AddressTaken => {
                 let change = self.change(item, seen);
                 at_where(address_taken(&self.table, &change), item.at)
@@ -495,7 +500,7 @@ impl Known {
             Kind::NotAnAddress => not_an_address(item, seen),
             Kind::ResetOfAll => reset_of_all(item, seen),
             Kind::SetForAll => set_for_all(&self.bus, item, seen),
-            Kind::NotTerminated => None,
+            Kind::CutOff | Kind::NotTerminated => None,
         }
     }
 
@@ -519,9 +524,14 @@ impl Known {
 
     /// Notes what the end of the capture breaks.
     pub(crate) fn tell_end(&self, findings: &mut Vec<Finding>) -> Result<(), AllocError>
-        ensures { OnOk result (findings.new.items
-            ≡ findings.old.items ++ told_by kind.NotTerminated (not_terminated self.now.bus)) }
+        ensures { OnOk result (findings.new.items ≡ findings.old.items ++ told_of_end self.now.bus) }
     {
+        if let Some(at) = self.bus.cut {
+            findings.push(Finding {
+                at,
+                kind: Kind::CutOff,
+            })?;
+        }
         if let Some(at) = not_terminated(&self.bus) {
             findings.push(Finding {
                 at,

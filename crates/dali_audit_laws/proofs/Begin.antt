@@ -6,7 +6,8 @@ use Rattle.dali_audit.specs.{Bus.bus_at_first, Findings.known_at_first, Findings
 use Rattle.dali_audit.specs.declared.holders.Holder.TheVariants as holder
 use Rattle.dali_events.specs.{Plan.Plan, Plan.IsPlan, Runs.after, Wanted.gear_of, World.start, declared.event.Event.Event, declared.used.Used.Used}
 use Rattle.dali_events.proofs.Invariant.{Safe.holds_start, Starting.IsUsedOrFresh, Starting.row_at, Starting.start_count}
-use Rattle.dali_audit_laws.{specs.Capture.capture_of, specs.Tables.Holds, specs.Tables.IsTableOf, specs.Undisturbed.IsUndisturbed, proofs.Grammar.Fits}
+use Rattle.dali_audit_laws.specs.Undisturbed.{at_first, IsUndisturbed}
+use Rattle.dali_audit_laws.{specs.Capture.capture_of, specs.Tables.Holds, specs.Tables.IsTableOf, proofs.Grammar.Fits}
 use Rattle.dali_audit_laws.proofs.Whole.{Agrees, Ended, Met, Any, IsToldOf, whole}
 
 -- A RUN BEGINS: the table is empty, and gear from the factory have no short address
@@ -27,7 +28,7 @@ none_holds p capacity factory g a has = go (row_at p g (subst (λ n. g < n) (sta
   go (inl k) = unused p.used k.0 factory k.1
   go (inr k) = let none : (gear_of (start p capacity).gear g).short ≡ None = ap (λ (x : Gear). x.short) k in let some = has.1 in cc
 
-begins : (p : Plan) (plan : IsPlan p) (capacity : ℕ) → p.used ≡ [] → Agrees p (start p capacity) 0 false None known_at_first
+begins : (p : Plan) (plan : IsPlan p) (capacity : ℕ) → p.used ≡ [] → Agrees p (start p capacity) 0 false at_first known_at_first
 begins p plan capacity factory = record {
   holds = holds_start p plan capacity;
   idle = λ e. refl;
@@ -36,7 +37,6 @@ begins p plan capacity factory = record {
     drawn = λ t e. absurd (cc);
     given = refl;
     search = tt;
-    crowded = tt;
     spelled = tt;
     redraw = tt;
     quieted = tt;
@@ -46,6 +46,8 @@ begins p plan capacity factory = record {
   settled = λ t e. absurd (cc);
   closed = λ e. absurd (cc);
   begun = λ y e. absurd (cc);
+  shut = λ e. absurd (cc);
+  cut = λ t e. absurd (cc);
   table = record {
     true_of = λ a some. absurd (some (nobody_at a));
     has = λ g a has. absurd (none_holds p capacity factory g a has);
@@ -56,7 +58,7 @@ begins p plan capacity factory = record {
 told : (p : Plan) (capacity : ℕ) (log : List Event) (is : IsUndisturbed p capacity log)
     → IsToldOf p is.run.plan log (start p capacity) known_at_first None (capture_of log)
 told p capacity log is =
-    whole p is.run.plan (start p capacity) log 0 false None known_at_first None is.run.allowed is.run.leaves is.calm is.in_time
+    whole p is.run.plan (start p capacity) log 0 false at_first known_at_first None is.run.allowed is.run.leaves is.calm is.in_time
     (begins p is.run.plan capacity is.factory)
 
 pub no_finding : (p : Plan) (capacity : ℕ) (log : List Event) → IsUndisturbed p capacity log → findings_in (capture_of log) ≡ []

@@ -15,9 +15,8 @@ use Rattle.dali_script.specs.Stages.{next_stage, hunted, doubted, queried, named
 use Rattle.dali_script.{specs.declared.block.Block.Block, specs.declared.stage.Stage.Stage, proofs.Giving.may_give_by}
 use Rattle.dali_script.proofs.Transactions.{asks_hunting, positive, middle_next, low_next, middle_same, low_same}
 use Rattle.dali_script.specs.declared.stage.Stage.TheVariants as stage
-use Rattle.dali_audit.specs.Bus.{number, repeats, completes, same_frame, addresses, unless_acting, begun_after, sent_by, byte_heard as spelled_on, same_place}
-use Rattle.dali_audit.specs.Bus.{same_number}
-use Rattle.dali_audit.specs.{Bus.told_apart, declared.bus.Bus.Bus, declared.bus.First.First, declared.bus.Search.Search, declared.bus.Spelled.Spelled}
+use Rattle.dali_audit.specs.Bus.{repeats, completes, same_frame, addresses, unless_acting, begun_after, sent_by, byte_heard as spelled_on}
+use Rattle.dali_audit.specs.{declared.bus.Bus.Bus, declared.bus.First.First, declared.bus.Search.Search, declared.bus.Spelled.Spelled}
 use Rattle.dali_audit.specs.declared.bus.Spelled.TheVariants as spelled
 use Rattle.dali_audit_laws.specs.{Capture.is_randomise, Capture.rest_before, Capture.item_at, Undisturbed.AwaitsMore}
 
@@ -57,10 +56,6 @@ Sought (stage.Unnamed r) s = IsAt r s
 Sought (stage.Programmed r a) s = IsAt r s
 Sought _ s = Unit {0}
 
-abbrev pub Apart : Stage → Option ℕ → Option ℕ → Type 0
-Apart (stage.Unnamed r) search crowded = same_place search crowded ≡ false
-Apart _ search crowded = Unit {0}
-
 abbrev pub Told : Stage → Spelled → Type 0
 Told (stage.HighAsked a (Some high)) sp = sp ≡ spelled.High a high
 Told (stage.HighAsked a None) sp = sp ≡ spelled.Nothing
@@ -97,7 +92,6 @@ pub record Fits (Q : Type 0) (F : SearchAddress → Type 0) (M : SearchAddress �
   pub drawn : Drawn s now drew b.drawn
   pub given : Given s b.given
   pub search : Sought s b.search
-  pub crowded : Apart s (number b.search) b.crowded
   pub spelled : Told s b.spelled
   pub redraw : Spares s b.may_redraw
   pub quieted : Quieted Q s
@@ -193,29 +187,29 @@ module _ (Q P : Type 0) (F G : SearchAddress → Type 0) (L : SearchAddress → 
   plain_fits : (s : Stage) (c : Command) → Plain s → (bus_by c again second (item_of now drew c f) f h bus).half ≡ None
       → (bus_by c again second (item_of now drew c f) f h bus).drawn ≡ None → (bus_by c again second (item_of now drew c f) f h bus).given ≡ None → Goes s c
   plain_fits (stage.Unanswered r) c is half drawn given =
-      record { half = half; drawn = drawn; given = given; search = tt; crowded = tt; spelled = tt; redraw = tt; quieted = tt; answered = tt; reserved = tt }
+      record { half = half; drawn = drawn; given = given; search = tt; spelled = tt; redraw = tt; quieted = tt; answered = tt; reserved = tt }
   plain_fits (stage.Inconclusive r other) c is half drawn given =
-      record { half = half; drawn = drawn; given = given; search = tt; crowded = tt; spelled = tt; redraw = tt; quieted = tt; answered = tt; reserved = tt }
+      record { half = half; drawn = drawn; given = given; search = tt; spelled = tt; redraw = tt; quieted = tt; answered = tt; reserved = tt }
   plain_fits (stage.Found r a) c is half drawn given =
-      record { half = half; drawn = drawn; given = given; search = tt; crowded = tt; spelled = tt; redraw = tt; quieted = tt; answered = tt; reserved = tt }
+      record { half = half; drawn = drawn; given = given; search = tt; spelled = tt; redraw = tt; quieted = tt; answered = tt; reserved = tt }
   plain_fits (stage.Confirmed r a) c is half drawn given =
-      record { half = half; drawn = drawn; given = given; search = tt; crowded = tt; spelled = tt; redraw = tt; quieted = tt; answered = tt; reserved = tt }
+      record { half = half; drawn = drawn; given = given; search = tt; spelled = tt; redraw = tt; quieted = tt; answered = tt; reserved = tt }
   plain_fits (stage.Withdrawn r a) c is half drawn given =
-      record { half = half; drawn = drawn; given = given; search = tt; crowded = tt; spelled = tt; redraw = tt; quieted = tt; answered = tt; reserved = tt }
+      record { half = half; drawn = drawn; given = given; search = tt; spelled = tt; redraw = tt; quieted = tt; answered = tt; reserved = tt }
   plain_fits (stage.Probed r a) c is half drawn given =
-      record { half = half; drawn = drawn; given = given; search = tt; crowded = tt; spelled = tt; redraw = tt; quieted = tt; answered = tt; reserved = tt }
+      record { half = half; drawn = drawn; given = given; search = tt; spelled = tt; redraw = tt; quieted = tt; answered = tt; reserved = tt }
   plain_fits (stage.PassedOver r) c is half drawn given =
-      record { half = half; drawn = drawn; given = given; search = tt; crowded = tt; spelled = tt; redraw = tt; quieted = tt; answered = tt; reserved = tt }
+      record { half = half; drawn = drawn; given = given; search = tt; spelled = tt; redraw = tt; quieted = tt; answered = tt; reserved = tt }
   plain_fits (stage.Hunted r last left) c is half drawn given =
-      record { half = half; drawn = drawn; given = given; search = tt; crowded = tt; spelled = tt; redraw = tt; quieted = tt; answered = tt; reserved = tt }
+      record { half = half; drawn = drawn; given = given; search = tt; spelled = tt; redraw = tt; quieted = tt; answered = tt; reserved = tt }
   plain_fits (stage.LowSent r a) c is half drawn given =
-      record { half = half; drawn = drawn; given = given; search = tt; crowded = tt; spelled = tt; redraw = tt; quieted = tt; answered = tt; reserved = tt }
+      record { half = half; drawn = drawn; given = given; search = tt; spelled = tt; redraw = tt; quieted = tt; answered = tt; reserved = tt }
   plain_fits (stage.WokenLow r a) c is half drawn given =
-      record { half = half; drawn = drawn; given = given; search = tt; crowded = tt; spelled = tt; redraw = tt; quieted = tt; answered = tt; reserved = tt }
+      record { half = half; drawn = drawn; given = given; search = tt; spelled = tt; redraw = tt; quieted = tt; answered = tt; reserved = tt }
   plain_fits stage.DrawBarred c is half drawn given =
-      record { half = half; drawn = drawn; given = given; search = tt; crowded = tt; spelled = tt; redraw = tt; quieted = tt; answered = tt; reserved = tt }
+      record { half = half; drawn = drawn; given = given; search = tt; spelled = tt; redraw = tt; quieted = tt; answered = tt; reserved = tt }
   plain_fits (stage.Spelled r a) c is half drawn given =
-      record { half = half; drawn = drawn; given = given; search = tt; crowded = tt; spelled = tt; redraw = tt; quieted = tt; answered = tt; reserved = tt }
+      record { half = half; drawn = drawn; given = given; search = tt; spelled = tt; redraw = tt; quieted = tt; answered = tt; reserved = tt }
   plain_fits _ c is half drawn given = absurd is
 
   -- the first frame of a pair
@@ -230,20 +224,6 @@ module _ (Q P : Type 0) (F G : SearchAddress → Type 0) (L : SearchAddress → 
   second_half c k (twice t is in_time) = completed bus.half f _ t is in_time
 
   -- WHAT WAS ASKED, by what was heard
-  told_apart_from : (search crowded : Option ℕ) → same_place search (told_apart search crowded) ≡ false
-  told_apart_from search crowded = go (same_number crowded search) refl where
-    apart : (s d : Option ℕ) → same_number d s ≡ false → same_place s d ≡ false
-    apart None d e = refl
-    apart (Some a) None e = refl
-    apart (Some a) (Some c) e = grind (arith, nat_tests)
-
-    go : (m : Bool) → same_number crowded search ≡ m → same_place search (if m then None else crowded) ≡ false
-    go true e = none search where
-      none : (s : Option ℕ) → same_place s None ≡ false
-      none None = refl
-      none (Some a) = refl
-    go false e = apart search crowded e
-
   queried_fits : (r : SearchAddress) → ((v : ℕ) → h ≡ Byte v → G r) → Fits Q F L (stage.NumberSent r) now drew bus → Goes (queried r h) QueryShort
   queried_fits r answering k = go h refl where
     named_fits : (v : ℕ) (o : Option ℕ) (m : Bool) → h ≡ Byte v → Goes (named r o m) QueryShort
@@ -254,7 +234,6 @@ module _ (Q P : Type 0) (F G : SearchAddress → Type 0) (L : SearchAddress → 
           drawn = refl;
           given = refl;
           search = k.search;
-          crowded = rw is (told_apart_from (number bus.search) bus.crowded);
           spelled = tt;
           redraw = tt;
           quieted = tt;
@@ -290,7 +269,7 @@ module _ (Q P : Type 0) (F G : SearchAddress → Type 0) (L : SearchAddress → 
   doubted_fits spared = go h where
     go : (x : Answer) → Goes (doubted x) Compare
     go Silence =
-        record { half = refl; drawn = refl; given = refl; search = tt; crowded = tt; spelled = tt; redraw = spared; quieted = tt; answered = tt; reserved = tt }
+        record { half = refl; drawn = refl; given = refl; search = tt; spelled = tt; redraw = spared; quieted = tt; answered = tt; reserved = tt }
     go (Byte v) = plain_fits stage.DrawBarred Compare tt refl refl refl
     go Damaged = plain_fits stage.DrawBarred Compare tt refl refl refl
 
@@ -317,7 +296,6 @@ module _ (Q P : Type 0) (F G : SearchAddress → Type 0) (L : SearchAddress → 
         drawn = refl;
         given = refl;
         search = tt;
-        crowded = tt;
         spelled = middle_told a high h bus.spelled k.spelled;
         redraw = tt;
         quieted = tt;
@@ -371,7 +349,6 @@ module _ (Q P : Type 0) (F G : SearchAddress → Type 0) (L : SearchAddress → 
         drawn = refl;
         given = refl;
         search = tt;
-        crowded = tt;
         spelled = tt;
         redraw = refl;
         quieted = ends refl;
@@ -379,14 +356,13 @@ module _ (Q P : Type 0) (F G : SearchAddress → Type 0) (L : SearchAddress → 
         reserved = tt;
       }
   fits_step stage.Free (SearchHigh high) on e two late quiet answering ends k =
-      record { half = refl; drawn = refl; given = k.given; search = refl; crowded = tt; spelled = tt; redraw = tt; quieted = tt; answered = tt; reserved = tt }
+      record { half = refl; drawn = refl; given = k.given; search = refl; spelled = tt; redraw = tt; quieted = tt; answered = tt; reserved = tt }
   fits_step stage.Free (RandomByte a High) on e two late quiet answering ends k =
       record {
         half = refl;
         drawn = refl;
         given = refl;
         search = tt;
-        crowded = tt;
         spelled = high_told a h bus.spelled;
         redraw = tt;
         quieted = tt;
@@ -399,7 +375,6 @@ module _ (Q P : Type 0) (F G : SearchAddress → Type 0) (L : SearchAddress → 
         drawn = arc_rested g late k.drawn;
         given = k.given;
         search = tt;
-        crowded = tt;
         spelled = tt;
         redraw = tt;
         quieted = tt;
@@ -412,7 +387,6 @@ module _ (Q P : Type 0) (F G : SearchAddress → Type 0) (L : SearchAddress → 
         drawn = refl;
         given = refl;
         search = tt;
-        crowded = tt;
         spelled = tt;
         redraw = spared second k.redraw;
         quieted = tt;
@@ -425,7 +399,6 @@ module _ (Q P : Type 0) (F G : SearchAddress → Type 0) (L : SearchAddress → 
         drawn = refl;
         given = refl;
         search = tt;
-        crowded = tt;
         spelled = tt;
         redraw = spared second k.redraw;
         quieted = tt;
@@ -438,7 +411,6 @@ module _ (Q P : Type 0) (F G : SearchAddress → Type 0) (L : SearchAddress → 
         drawn = rw (two ∙ completed_none bus.half f _ k.half) refl;
         given = refl;
         search = tt;
-        crowded = tt;
         spelled = tt;
         redraw = k.redraw;
         quieted =
@@ -452,7 +424,6 @@ module _ (Q P : Type 0) (F G : SearchAddress → Type 0) (L : SearchAddress → 
         drawn = rw (two ∙ completed_none bus.half f _ k.half) refl;
         given = refl;
         search = tt;
-        crowded = tt;
         spelled = tt;
         redraw = k.redraw;
         quieted =
@@ -467,7 +438,6 @@ module _ (Q P : Type 0) (F G : SearchAddress → Type 0) (L : SearchAddress → 
         given = refl;
         search =
             tt;
-        crowded = tt;
         spelled = tt;
         redraw = tt;
         quieted = tt;
@@ -480,7 +450,6 @@ module _ (Q P : Type 0) (F G : SearchAddress → Type 0) (L : SearchAddress → 
         drawn = refl;
         given = k.given;
         search = tt;
-        crowded = tt;
         spelled = tt;
         redraw = k.redraw;
         quieted = tt;
@@ -495,7 +464,6 @@ module _ (Q P : Type 0) (F G : SearchAddress → Type 0) (L : SearchAddress → 
         drawn = refl;
         given = k.given;
         search = tt;
-        crowded = tt;
         spelled = tt;
         redraw = k.redraw;
         quieted = tt;
@@ -511,7 +479,6 @@ module _ (Q P : Type 0) (F G : SearchAddress → Type 0) (L : SearchAddress → 
         drawn = refl;
         given = k.given;
         search = (k.search, refl);
-        crowded = tt;
         spelled = tt;
         redraw = tt;
         quieted = tt;
@@ -529,7 +496,6 @@ module _ (Q P : Type 0) (F G : SearchAddress → Type 0) (L : SearchAddress → 
         drawn = refl;
         given = k.given;
         search = (k.search.0, k.search.1, refl);
-        crowded = tt;
         spelled = tt;
         redraw = tt;
         quieted = tt;
@@ -546,7 +512,6 @@ module _ (Q P : Type 0) (F G : SearchAddress → Type 0) (L : SearchAddress → 
         drawn = refl;
         given = tt;
         search = k.search;
-        crowded = tt;
         spelled = tt;
         redraw = tt;
         quieted = tt;
@@ -566,18 +531,17 @@ leave Q F L M stage.InitialisedOnce now drew bus whole k = absurd (whole tt)
 leave Q F L M stage.RandomisedOnce now drew bus whole k = absurd (whole tt)
 leave Q F L M (stage.Programmed r a) now drew bus whole k = absurd (whole tt)
 leave Q F L M stage.Free now drew bus whole k =
-    record { half = k.half; drawn = k.drawn; given = k.given; search = tt; crowded = tt; spelled = tt; redraw = tt; quieted = tt; answered = tt; reserved = tt }
+    record { half = k.half; drawn = k.drawn; given = k.given; search = tt; spelled = tt; redraw = tt; quieted = tt; answered = tt; reserved = tt }
 leave Q F L M stage.Opened now drew bus whole k =
-    record { half = k.half; drawn = k.drawn; given = k.given; search = tt; crowded = tt; spelled = tt; redraw = tt; quieted = tt; answered = tt; reserved = tt }
+    record { half = k.half; drawn = k.drawn; given = k.given; search = tt; spelled = tt; redraw = tt; quieted = tt; answered = tt; reserved = tt }
 leave Q F L M stage.Over now drew bus whole k =
-    record { half = k.half; drawn = k.drawn; given = k.given; search = tt; crowded = tt; spelled = tt; redraw = tt; quieted = tt; answered = tt; reserved = tt }
+    record { half = k.half; drawn = k.drawn; given = k.given; search = tt; spelled = tt; redraw = tt; quieted = tt; answered = tt; reserved = tt }
 leave Q F L M _ now drew bus whole k =
     record {
       half = k.half;
       drawn = λ t e. absurd (let none = k.drawn in cc);
       given = k.given;
       search = tt;
-      crowded = tt;
       spelled = tt;
       redraw = tt;
       quieted = tt;
@@ -601,7 +565,6 @@ go_on Q F L s now drew bus k =
       drawn = k.drawn;
       given = k.given;
       search = k.search;
-      crowded = k.crowded;
       spelled = k.spelled;
       redraw = k.redraw;
       quieted = k.quieted;

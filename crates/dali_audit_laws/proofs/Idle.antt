@@ -1,17 +1,19 @@
 use Rattle.std.proofs.Common.{◌≡◌, ℕ, ◌<◌, ◌⊎◌, inl, inr, Bool, true, false, List, refl, sym, ap, subst, ◌∙◌, length, get_or, Option, Some, None, ◌&&◌, not}
-use Rattle.std.proofs.Common.{nat_le, if◌then◌else◌}
+use Rattle.std.proofs.Common.{nat_le, if◌then◌else◌, is_none, ◌||◌}
 use Rattle.dali_frame.specs.Random.{value_of}
 use Rattle.dali_frame.specs.declared.frames.{Answer.Answer, Answer.TheVariants.Silence, Answer.TheVariants.Byte, Answer.TheVariants.Damaged, Forward.Forward}
-use Rattle.dali_special.specs.{Command.program_data, declared.command.Command.Command}
+use Rattle.dali_special.specs.{Command.program_data, Command.command_of, declared.command.Command.Command}
 use Rattle.dali_special.specs.declared.command.Command.TheVariants.{Terminate, Initialise, Withdraw, Compare, Verify, QueryShort}
-use Rattle.dali_special.specs.declared.command.Target.{Target}
+use Rattle.dali_special.specs.declared.command.Target.{Target, TheVariants.All, TheVariants.Unaddressed, TheVariants.Addressed}
 use Rattle.dali_gear.specs.Gear.{Gear, fresh, answer, is_active, is_enabled, is_found, is_second, concerns, has_short, state_after, YES}
 use Rattle.dali_gear.specs.{Row.answers_of, Row.heard_of, Row.row_after, Row.drawn_of, declared.row.Reach.TheVariants.Everyone}
 use Rattle.dali_gear.specs.declared.state.InitialisationState.{InitialisationState, TheVariants.Disabled, TheVariants.Enabled, TheVariants.Withdrawn}
 use Rattle.dali_capture.specs.declared.item.Item.{Item}
+use Rattle.dali_audit.specs.{Bus.repeats, Bus.misled, declared.bus.First.First}
 use Rattle.dali_audit.specs.{Bus.sent_by, Bus.passed, Bus.is_over, Findings.asks_initialised, Seen.is_silence, declared.bus.Begun.Begun, declared.bus.Bus.Bus}
 use Rattle.dali_events.proofs.Invariant.{Sending.powered_takes, Takes.Moved, Takes.stays, Takes.goes, Takes.moves_at, Takes.row_length}
-use Rattle.dali_audit_laws.{specs.Undisturbed.open_since, proofs.Replies.Replies, proofs.Replies.somebody, proofs.Replies.several}
+use Rattle.dali_audit_laws.proofs.Grammar.{Paired, alone, twice}
+use Rattle.dali_audit_laws.{specs.Undisturbed.Since, specs.Undisturbed.open_since, proofs.Replies.Replies, proofs.Replies.somebody, proofs.Replies.several}
 
 -- AFTER TERMINATE NO GEAR TAKES PART, until an INITIALISE is complete
 
@@ -116,10 +118,10 @@ closed_from (Initialise t) again second x f h b e = inr (go b.is_closed again e)
 closed_from _ again second x f h b e = inr (e, λ t is. absurd (cc))
 
 -- the last INITIALISE that was complete is the one since which an initialisation is open
-pub begun_from : (c : Command) (again second : Bool) (since : Option ℕ) (x : Item) (f : Forward) (h : Answer) (b : Bus)
+pub begun_from : (c : Command) (again second : Bool) (since : Since) (x : Item) (f : Forward) (h : Answer) (b : Bus)
     → ((t : Target) → c ≡ Initialise t → second ≡ false → b.begun ≡ None) → is_over b.begun x.at f ≡ false
-    → ((y : Begun) → b.begun ≡ Some y → since ≡ Some y.until)
-    → (y : Begun) → (sent_by c again second x h (passed x f b)).begun ≡ Some y → open_since c x.until since ≡ Some y.until
+    → ((y : Begun) → b.begun ≡ Some y → since.at ≡ Some y.until)
+    → (y : Begun) → (sent_by c again second x h (passed x f b)).begun ≡ Some y → (open_since c x.until since).at ≡ Some y.until
 begun_from Terminate again second since x f h b none short k y e = absurd (cc)
 begun_from (Initialise t) again true since x f h b none short k y e = ap (λ (z : Option Begun). until_of z) e where
   until_of : Option Begun → Option ℕ
@@ -128,3 +130,56 @@ begun_from (Initialise t) again true since x f h b none short k y e = ap (λ (z 
 begun_from (Initialise t) again false since x f h b none short k y e =
     absurd (let was : b.begun ≡ None = none t refl refl in let now : Some y ≡ None = sym e ∙ rw (short, was) refl in cc)
 begun_from _ again second since x f h b none short k y e = k y (rw short at e)
+
+-- ---------------------------------------------------------------- searches that are cut off
+-- the first frame of a pair that waits is INITIALISE
+abbrev pub IsBegun : Option First → Type 0
+IsBegun None = ⊥
+IsBegun (Some y) = (u : Target) × (command_of y.frame ≡ Initialise u)
+
+not_begun : (half : Option First) (f : Forward) (until : ℕ) → Paired half f until → ((u : Target) → command_of f ≡ Initialise u → ⊥) → IsBegun half → ⊥
+not_begun half f until (alone none) other is = let no : IsBegun None = subst IsBegun none is in no
+not_begun half f until (twice t e in_time) other is =
+    let k : IsBegun (Some (record { frame = f; at = t; is_told = false })) = subst IsBegun e is in other k.0 k.1
+
+-- after TERMINATE no initialisation is open, but between the two frames of INITIALISE
+abbrev pub Shut : Since → Bus → Type 0
+Shut since b = b.is_closed ≡ true → (since.at ≡ None) ⊎ IsBegun b.half
+
+pub shut_from : (c : Command) (second : Bool) (since : Since) (x : Item) (f : Forward) (h : Answer) (b : Bus) → command_of f ≡ c
+    → Paired b.half f x.until → Shut since b → Shut (open_since c x.until since) (sent_by c (repeats b.half f) second x h (passed x f b))
+shut_from c second since x f h b is pair shut e = go c is (closed_from c (repeats b.half f) second x f h b e) where
+  still : (d : Command) → command_of f ≡ d → ((u : Target) → d ≡ Initialise u → ⊥) → (since.at ≡ None) ⊎ IsBegun b.half → since.at ≡ None
+  still d at other (inl none) = none
+  still d at other (inr begun) = absurd (not_begun b.half f x.until pair (λ u k. other u (sym at ∙ k)) begun)
+
+  go : (d : Command) → command_of f ≡ d → (d ≡ Terminate) ⊎ ((b.is_closed ≡ true) × ((t : Target) → d ≡ Initialise t → repeats b.half f ≡ false))
+      → ((open_since d x.until since).at ≡ None) ⊎ IsBegun (sent_by d (repeats b.half f) second x h (passed x f b)).half
+  go Terminate at k = inl refl
+  go (Initialise u) at (inl k) = absurd (cc)
+  go (Initialise u) at (inr k) = inr (rw (at, k.1 u refl) (u, at))
+  go d at (inl k) = absurd (cc)
+  go d at (inr k) = inl (still d at (λ u no. cc) (shut k.0))
+
+pub cut_from : (c : Command) (again second : Bool) (since : Since) (x : Item) (f : Forward) (h : Answer) (b : Bus) → command_of f ≡ c
+    → Paired b.half f x.until → Shut since b → ((t : ℕ) → b.cut ≡ Some t → since.is_cut ≡ true)
+    → (t : ℕ) → (sent_by c again second x h (passed x f b)).cut ≡ Some t → (open_since c x.until since).is_cut ≡ true
+cut_from (Initialise All) again second since x f h b is pair shut k t e = absurd (cc)
+cut_from (Initialise Unaddressed) again second since x f h b is pair shut k t e = absurd (cc)
+cut_from (Initialise (Addressed a)) again second since x f h b is pair shut k t e = rw (k t e) refl
+cut_from Compare again second since x f h b is pair shut k t e = was b.cut refl e where
+  always : (m : Bool) → (m || true) ≡ true
+  always true = refl
+  always false = refl
+
+  none : (since.at ≡ None) ⊎ IsBegun b.half → (since.is_cut || is_none since.at) ≡ true
+  none (inl shut) = rw shut (always since.is_cut)
+  none (inr begun) = absurd (not_begun b.half f x.until pair (λ u y. let no : Compare ≡ Initialise u = sym is ∙ y in cc) begun)
+
+  was : (o : Option ℕ) → b.cut ≡ o → misled b.is_closed x.at h o ≡ Some t → (since.is_cut || is_none since.at) ≡ true
+  was (Some n) at e = rw (k n at) refl
+  was None at e = closed b.is_closed refl e where
+    closed : (m : Bool) → b.is_closed ≡ m → misled m x.at h None ≡ Some t → (since.is_cut || is_none since.at) ≡ true
+    closed true y e = none (shut y)
+    closed false y e = absurd (cc)
+cut_from _ again second since x f h b is pair shut k t e = k t e

@@ -3,7 +3,7 @@ use Rattle.std.proofs.lemmas.Bool.Decides.{nat_tests}
 use Rattle.dali_frame.specs.declared.frames.Answer.{Answer, TheVariants.Silence, TheVariants.Byte, TheVariants.Damaged}
 use Rattle.dali_frame.specs.declared.{frames.Forward.Forward, numbers.SearchAddress.SearchAddress}
 use Rattle.dali_special.specs.{Command.command_of, declared.command.Command.Command}
-use Rattle.dali_special.specs.declared.command.Command.TheVariants.{Terminate, SearchHigh, Randomise, QueryShort, RandomByte, Arc, Other}
+use Rattle.dali_special.specs.declared.command.Command.TheVariants.{Terminate, SearchHigh, Randomise, Verify, QueryShort, RandomByte, Arc, Other}
 use Rattle.dali_special.specs.declared.command.Part.TheVariants.{High}
 use Rattle.dali_capture.specs.declared.item.Item.{Item}
 use Rattle.dali_script.specs.{Records.Assignment, Stages.Follows, declared.block.Block.Block, declared.stage.Stage.Stage}
@@ -11,6 +11,7 @@ use Rattle.dali_script.specs.declared.stage.Stage.TheVariants as stage
 use Rattle.dali_script.proofs.Transactions.{asks_hunting}
 use Rattle.dali_audit.specs.{Bus.is_addressing, Bus.in_initialisation, Bus.repeats, Bus.late_by, Bus.is_over, Findings.asks_one, Findings.damaged_answer}
 use Rattle.dali_audit.specs.Findings.{broken_pair, half_pair, late_pair, too_early, too_close, early_frame, initialisation_over, unasked, not_queried}
+use Rattle.dali_audit.specs.Findings.{several_by, several_programmed}
 use Rattle.dali_audit.specs.{Findings.settling_time, Findings.at_where, Findings.is_misspelled, Findings.is_to_all, declared.bus.Begun.Begun}
 use Rattle.dali_audit.specs.{declared.bus.Bus.Bus, declared.bus.First.First}
 use Rattle.dali_audit.specs.declared.seen.Seen.TheVariants as seen
@@ -104,6 +105,17 @@ settled_by (Some t) now drew c f k = rw far refl where
 
   far : nat_lt (now + rest_before drew c - t) 12150 ≡ false
   far = let before : t ≤ now = k t refl in let rest : 14178 ≤ rest_before drew c = rests drew c in grind (arith, nat_tests)
+
+-- one gear answers after PROGRAM SHORT ADDRESS
+pub one_there : (b : Bus) (f : Forward) (h : Answer) → (h ≡ Damaged → asks_one (command_of f) ≡ false) → several_programmed b (seen.Sent f h) ≡ None
+one_there b f Silence one = refl
+one_there b f (Byte v) one = refl
+one_there b f Damaged one = go (command_of f) (one refl) where
+  go : (c : Command) → asks_one c ≡ false → several_by b c ≡ None
+  go QueryShort e = absurd (cc)
+  go (Verify a) e = absurd (cc)
+  go (RandomByte a part) e = absurd (cc)
+  go _ e = refl
 
 pub clear : (x : Item) (f : Forward) (h : Answer) → (h ≡ Damaged → asks_one (command_of f) ≡ false) → damaged_answer x (seen.Sent f h) ≡ None
 clear x f Silence one = refl

@@ -22,7 +22,7 @@ use Rattle.dali_script.specs.declared.stage.Stage.TheVariants as stage
 use Rattle.dali_audit.specs.{Bus.number, Bus.is_over, Bus.completes, Bus.repeats, Bus.frame_end, Findings.told_of, Findings.kinds, Findings.known_after}
 use Rattle.dali_audit.specs.Findings.{findings_from, known_from, first_of, address_taken, address_moved, two_random, two_short, redraws, broken_pair}
 use Rattle.dali_audit.specs.Findings.{too_early, unasked}
-use Rattle.dali_audit.specs.{Findings.several_programmed, Findings.not_found, Findings.is_among, Findings.asks_one, Holders.change_of, Holders.table_after}
+use Rattle.dali_audit.specs.{Findings.not_found, Findings.is_among, Findings.asks_one, Holders.change_of, Holders.table_after}
 use Rattle.dali_audit.specs.{Holders.short_in, Seen.awaits, Seen.seen_of, Seen.answer_after, Seen.in_window, Seen.may_be_answered}
 use Rattle.dali_audit.specs.declared.{bus.Begun.Begun, bus.Bus.Bus, bus.First.First, holders.Change.Change, telling.Known.Known}
 use Rattle.dali_audit.specs.declared.holders.Change.TheVariants as change
@@ -36,13 +36,13 @@ use Rattle.dali_events.proofs.Invariant.{Sending.knows_running, Sending.powered_
 use Rattle.dali_events.specs.declared.event.Event.TheVariants as event
 use Rattle.dali_audit_laws.specs.Capture.{frames_of, items_from, answers_at, over_at, begins_at, ends_at, is_randomise, rest_before, item_at, WAIT}
 use Rattle.dali_audit_laws.specs.Tables.{Holds, IsTableOf}
-use Rattle.dali_audit_laws.specs.Undisturbed.{AwaitsMore, DisturbsNothing, DisturbNothing, open_since, Within, AreInTime}
+use Rattle.dali_audit_laws.specs.Undisturbed.{AwaitsMore, DisturbsNothing, DisturbNothing, Since, open_since, Within, AreInTime}
 use Rattle.dali_audit_laws.proofs.Changes.{apart, one_answers, IsTrueChange, true_change, number_at}
 use Rattle.dali_audit_laws.proofs.Grammar.{Fits, Paired, alone, twice, paired, completed, repeated, item_of, fits_step, leave, ended, go_on}
-use Rattle.dali_audit_laws.proofs.Idle.{AllIdle, NoneHalf, idle_taken, half_taken, initialised, closed_from, begun_from}
+use Rattle.dali_audit_laws.proofs.Idle.{AllIdle, NoneHalf, idle_taken, half_taken, initialised, closed_from, begun_from, Shut, shut_from, cut_from}
 use Rattle.dali_audit_laws.proofs.Replies.{somebody, silent, query_replies, found_here}
 use Rattle.dali_audit_laws.proofs.Silent.{clear, in_time, no_half_pair, no_late_pair, no_early_frame, not_over, queried_next, settled_before, spelled_well}
-use Rattle.dali_audit_laws.proofs.Silent.{to_one}
+use Rattle.dali_audit_laws.proofs.Silent.{one_there, to_one}
 use Rattle.dali_audit_laws.proofs.Standing.{SameGear, one_random, one_short, table_nothing, table_told, table_answered, length_after}
 use Rattle.dali_audit_laws.proofs.Standing.{free, unmoved, table_given}
 
@@ -66,19 +66,20 @@ abbrev pub Any : SearchAddress → ℕ → Type 0
 Any r a = Unit {0}
 
 -- WHAT THE AUDIT KNOWS AGREES with the world; `since`: since when an initialisation is open
-pub record Agrees (p : Plan) (w : World) (now : ℕ) (drew : Bool) (since : Option ℕ) (k : Known) : Type 0 where
+pub record Agrees (p : Plan) (w : World) (now : ℕ) (drew : Bool) (since : Since) (k : Known) : Type 0 where
   pub holds : HoldsAll p w
   pub idle : w.bus.owner ≡ None → w.trace ≡ []
   pub fits : Fits (Ended w.gear k.bus) (Met w.gear k.found) Any (stage_of w.trace) now drew k.bus
   pub settled : (t : ℕ) → k.bus.settled ≡ Some t → t ≤ now
   pub closed : k.bus.is_closed ≡ true → AllIdle w.gear
-  pub begun : (y : Begun) → k.bus.begun ≡ Some y → since ≡ Some y.until
+  pub begun : (y : Begun) → k.bus.begun ≡ Some y → since.at ≡ Some y.until
+  pub shut : Shut since k.bus
+  pub cut : (t : ℕ) → k.bus.cut ≡ Some t → since.is_cut ≡ true
   pub table : IsTableOf w.gear k.table
   pub places : length k.table ≡ 64
 
 -- no rule on short addresses is broken by a change, and the table is that of the gear afterwards
 pub record IsClean (k : Known) (ht : List Gear) (ch : Change) : Type 0 where
-  pub several : several_programmed k.bus ch ≡ false
   pub found : not_found k ch ≡ false
   pub free : address_taken k.table ch ≡ false
   pub moved : address_moved k.table ch ≡ false
@@ -141,9 +142,9 @@ over_later y (Byte n) = omega arith
 over_later y Damaged = omega arith
 
 -- ---------------------------------------------------------------- a frame that was sent
-module _ (p : Plan) (plan : IsPlan p) (w : World) (c : ℕ) (f : Forward) (h : Answer) (now : ℕ) (drew : Bool) (since : Option ℕ) (k : Known)
+module _ (p : Plan) (plan : IsPlan p) (w : World) (c : ℕ) (f : Forward) (h : Answer) (now : ℕ) (drew : Bool) (since : Since) (k : Known)
     (here : Allowed w (event.Sent c f h)) (leaves : LeavesUsed p.used (event.Sent c f h)) (calm : DisturbsNothing w (event.Sent c f h))
-    (agrees : Agrees p w now drew since k) (within : Within since (now + rest_before drew (command_of f))) where
+    (agrees : Agrees p w now drew since k) (within : Within since.at (now + rest_before drew (command_of f))) where
   abbrev b : Block
   b = (controller_at w c).records.block
 
@@ -254,7 +255,6 @@ module _ (p : Plan) (plan : IsPlan p) (w : World) (c : ℕ) (f : Forward) (h : A
 
   clean_by : (d : Change) → SameGear w.gear v.gear → IsTrueChange p plan w agrees.holds d → IsClean k v.gear d
   clean_by change.Nothing same is = record {
-    several = refl;
     found = refl;
     free = refl;
     moved = refl;
@@ -264,7 +264,6 @@ module _ (p : Plan) (plan : IsPlan p) (w : World) (c : ℕ) (f : Forward) (h : A
     table = table_nothing w.gear k.table agrees.table (apart p plan w agrees.holds) v.gear same;
   }
   clean_by (change.Told a r) same is = record {
-    several = refl;
     found = refl;
     free = refl;
     moved = refl;
@@ -274,7 +273,6 @@ module _ (p : Plan) (plan : IsPlan p) (w : World) (c : ℕ) (f : Forward) (h : A
     table = table_told w.gear k.table agrees.table (apart p plan w agrees.holds) v.gear a r same (small is.gear a is.has) is;
   }
   clean_by (change.Answered a) same is = record {
-    several = refl;
     found = refl;
     free = refl;
     moved = refl;
@@ -304,7 +302,6 @@ module _ (p : Plan) (plan : IsPlan p) (w : World) (c : ℕ) (f : Forward) (h : A
       let there : a < length k.table =
       (let at : a < 64 = held.known.short one.gear has.0 a has.1 in let all : length k.table ≡ 64 = agrees.places in omega arith) in
       record {
-        several = fit.crowded;
         found = rw (fit.answered.1) (never (is_some k.bus.begun));
         moved = unmoved w.gear k.table agrees.table (apart p plan w agrees.holds) v.gear one.gear a (value_of r) there one.in_row none one.random has
             (moved.1 ∙ one.random) (apart p plan v held) stay (λ i d h. new a is i d (from i d h));
@@ -340,7 +337,7 @@ module _ (p : Plan) (plan : IsPlan p) (w : World) (c : ℕ) (f : Forward) (h : A
   one_gear is = one_answers p plan w agrees.holds b xs s (command_of f) (search_of t) on searched knows calm.1 (sym is ∙ calm.0)
 
   over : is_over k.bus.begun x.at f ≡ false
-  over = in_time k.bus.begun x.at f (λ y e. before since (agrees.begun y e) within) where
+  over = in_time k.bus.begun x.at f (λ y e. before since.at (agrees.begun y e) within) where
     before : (o : Option ℕ) {n : ℕ} → o ≡ Some n → Within o x.at → x.at ≤ n + 900000000
     before None e short = absurd (cc)
     before (Some n) e short = subst (λ i. x.at ≤ i + 900000000) (let same : n ≡ _ = cc in same) short
@@ -357,7 +354,7 @@ module _ (p : Plan) (plan : IsPlan p) (w : World) (c : ℕ) (f : Forward) (h : A
         not_over b xs s (command_of f) now drew f h k.bus (Ended w.gear k.bus) (Met w.gear k.found) Any on refl fits over,
         queried_next b xs s (command_of f) now drew f h k.bus (Ended w.gear k.bus) (Met w.gear k.found) Any on refl fits,
         clean.found,
-        clean.several,
+        one_there k.bus f h one_gear,
         clean.free,
         clean.moved,
         clean.one_random,
@@ -433,9 +430,14 @@ module _ (p : Plan) (plan : IsPlan p) (w : World) (c : ℕ) (f : Forward) (h : A
     settled = λ u e. subst (λ n. n ≤ later) (let one : x.until ≡ u = cc in one) (over_later x.until h);
     closed = closed_after;
     begun = begun_from (command_of f) (repeats k.bus.half f) (completes k.bus.half x.until f) since x f h k.bus first_begun over agrees.begun;
+    shut = shut_from (command_of f) (completes k.bus.half x.until f) since x f h k.bus refl pair agrees.shut;
+    cut = cut_from (command_of f) (repeats k.bus.half f) (completes k.bus.half x.until f) since x f h k.bus refl pair agrees.shut agrees.cut;
     table = clean.table;
     places = length_after (short_in ch) ch k.table ∙ agrees.places;
   } where
+    pair : Paired k.bus.half f x.until
+    pair = paired b xs s (command_of f) now drew k.bus.half f on refl fits.half
+
     idle : (more : Bool) → (if more then Some c else None) ≡ None → (if more then t ++ entry f h ∷ [] else []) ≡ []
     idle true e = absurd (cc)
     idle false e = refl
@@ -459,7 +461,7 @@ replied_given (Some t) = refl
 replied_tells : (k : Known) (x : Item) → told_of k x seen.Replied kinds ≡ []
 replied_tells k x = rw (replied_pair k.bus.half, replied_early k.bus.drawn x, replied_given k.bus.given) refl
 
-replied_agrees : (p : Plan) (plan : IsPlan p) (w : World) (now : ℕ) (drew : Bool) (since : Option ℕ) (k : Known) (x : Item) → x.until ≤ now
+replied_agrees : (p : Plan) (plan : IsPlan p) (w : World) (now : ℕ) (drew : Bool) (since : Since) (k : Known) (x : Item) → x.until ≤ now
     → Agrees p w now drew since k
     → Agrees p w now drew since (known_after x seen.Replied k)
 replied_agrees p plan w now drew since k x over a = record {
@@ -469,6 +471,8 @@ replied_agrees p plan w now drew since k x over a = record {
   settled = λ t e. ends x.what t e;
   closed = a.closed;
   begun = a.begun;
+  shut = a.shut;
+  cut = a.cut;
   table = table_nothing w.gear k.table a.table (apart p plan w a.holds) w.gear (record { stays = λ g n has. (has, refl); from = λ g n has. has });
   places = length_after None change.Nothing k.table ∙ a.places;
 } where
@@ -487,7 +491,6 @@ replied_agrees p plan w now drew since k x over a = record {
     drawn = same_found.drawn;
     given = same_found.given;
     search = same_found.search;
-    crowded = same_found.crowded;
     spelled = same_found.spelled;
     redraw = same_found.redraw;
     quieted = same_found.quieted;
@@ -502,7 +505,7 @@ put_owner b c (Commit y) = refl
 put_owner b c (Done end) = refl
 put_owner b c (Halt why) = refl
 
-acted_agrees : (p : Plan) (plan : IsPlan p) (w : World) (c : ℕ) (i : Input) (o : Order) (now : ℕ) (drew : Bool) (since : Option ℕ) (k : Known)
+acted_agrees : (p : Plan) (plan : IsPlan p) (w : World) (c : ℕ) (i : Input) (o : Order) (now : ℕ) (drew : Bool) (since : Since) (k : Known)
     → Allowed w (event.Acted c i o)
     → LeavesUsed p.used (event.Acted c i o) → DisturbsNothing w (event.Acted c i o) → Agrees p w now drew since k
     → Agrees p (happens w (event.Acted c i o)) now drew since k
@@ -513,6 +516,8 @@ acted_agrees p plan w c i o now drew since k here leaves calm a = record {
   settled = a.settled;
   closed = a.closed;
   begun = a.begun;
+  shut = a.shut;
+  cut = a.cut;
   table = a.table;
   places = a.places;
 } where
@@ -527,7 +532,7 @@ acted_agrees p plan w c i o now drew since k here leaves calm a = record {
       (leave (Ended w.gear k.bus) (Met w.gear k.found) Any Any _ _ _ _ (calm refl) a.fits)
   given_up false calm = a.fits
 
-offered_agrees : (p : Plan) (plan : IsPlan p) (w : World) (c : ℕ) (f : Forward) (now : ℕ) (drew : Bool) (since : Option ℕ) (k : Known)
+offered_agrees : (p : Plan) (plan : IsPlan p) (w : World) (c : ℕ) (f : Forward) (now : ℕ) (drew : Bool) (since : Since) (k : Known)
     → Allowed w (event.Offered c f)
     → LeavesUsed p.used (event.Offered c f) → Agrees p w now drew since k → Agrees p (happens w (event.Offered c f)) now drew since k
 offered_agrees p plan w c f now drew since k here leaves a = record {
@@ -537,6 +542,8 @@ offered_agrees p plan w c f now drew since k here leaves a = record {
   settled = a.settled;
   closed = a.closed;
   begun = a.begun;
+  shut = a.shut;
+  cut = a.cut;
   table = a.table;
   places = a.places;
 }
@@ -569,9 +576,9 @@ module _ (p : Plan) (plan : IsPlan p) where
   both : {A : Type 0} (xs ys : List A) → xs ≡ [] → ys ≡ [] → xs ++ ys ≡ []
   both xs ys d e = rw (d, e) refl
 
-  sent_whole : (w : World) (c : ℕ) (f : Forward) (h : Answer) (es : List Event) (now : ℕ) (drew : Bool) (since : Option ℕ) (k : Known) (before : Option Item)
+  sent_whole : (w : World) (c : ℕ) (f : Forward) (h : Answer) (es : List Event) (now : ℕ) (drew : Bool) (since : Since) (k : Known) (before : Option Item)
       → Allowed w (event.Sent c f h) → LeavesUsed p.used (event.Sent c f h) → DisturbsNothing w (event.Sent c f h) → Agrees p w now drew since k
-      → Within since (now + rest_before drew (command_of f))
+      → Within since.at (now + rest_before drew (command_of f))
       → ((later : Known) (z : Option Item) → Agrees p (happens w (event.Sent c f h)) (over_at (now + rest_before drew (command_of f) + 14167) h)
       (is_randomise (command_of f)) (open_since (command_of f) (now + rest_before drew (command_of f) + 14167) since) later
       → IsToldOf es (happens w (event.Sent c f h)) later z (items_from (over_at (now + rest_before drew (command_of f) + 14167) h) (is_randomise (command_of f))
@@ -641,14 +648,19 @@ module _ (p : Plan) (plan : IsPlan p) where
         (rw (an_answer now drew (entry f h) (item_at (frame.until + WAIT) heard.Damaged) (asks (λ s. let both = sym e ∙ s in cc)) refl) refl)
         (rw e (omega arith))
 
-  pub whole : (w : World) (es : List Event) (now : ℕ) (drew : Bool) (since : Option ℕ) (k : Known) (before : Option Item) → AllAllowed w es
+  pub whole : (w : World) (es : List Event) (now : ℕ) (drew : Bool) (since : Since) (k : Known) (before : Option Item) → AllAllowed w es
       → AllByRecursion (LeavesUsed p.used) es
       → DisturbNothing w es → AreInTime since now drew (frames_of es) → Agrees p w now drew since k
       → IsToldOf es w k before (items_from now drew (frames_of es))
-  whole w [] now drew since k before all leaves calm timely a = record { findings = rw (none k.bus.begun a.begun) refl; table = a.table } where
-    none : (o : Option Begun) → ((y : Begun) → o ≡ Some y → since ≡ Some y.until) → o ≡ None
-    none None at = refl
-    none (Some y) at = absurd (let some = at y refl in let shut : since ≡ None = timely in let both = sym shut ∙ some in cc)
+  whole w [] now drew since k before all leaves calm timely a =
+      record { findings = rw (none k.bus.begun a.begun, searched k.bus.cut a.cut) refl; table = a.table } where
+        none : (o : Option Begun) → ((y : Begun) → o ≡ Some y → since.at ≡ Some y.until) → o ≡ None
+        none None at = refl
+        none (Some y) at = absurd (let some = at y refl in let both = sym timely.0 ∙ some in cc)
+
+        searched : (o : Option ℕ) → ((t : ℕ) → o ≡ Some t → since.is_cut ≡ true) → o ≡ None
+        searched None at = refl
+        searched (Some t) at = absurd (let cut = at t refl in let both = sym timely.1 ∙ cut in cc)
   whole w (event.Acted c i o ∷ es) now drew since k before all leaves calm timely a =
       let rest = whole (happens w (event.Acted c i o)) es now drew since k before all.1 leaves.1 calm.1 timely
       (acted_agrees p plan w c i o now drew since k all.0 leaves.0 calm.0 a) in

@@ -16,7 +16,7 @@ use Rattle.dali_events.proofs.Histories.Openings.{at_123456, opening, visit, que
 use Rattle.dali_events.proofs.{Histories.Tested.all_allowed_by, Invariant.Growing.leave_none, Plans.plan_is}
 use Rattle.dali_events.specs.declared.event.Event.TheVariants as event
 use Rattle.dali_audit_laws.specs.Capture.{capture_of, frames_of, is_randomise, begins_at, ends_at, next_at}
-use Rattle.dali_audit_laws.specs.Undisturbed.{DisturbsNothing, DisturbNothing, open_since, Within, AreInTime, IsUndisturbed}
+use Rattle.dali_audit_laws.specs.Undisturbed.{DisturbsNothing, DisturbNothing, Since, at_first, open_since, Within, AreInTime, IsUndisturbed}
 
 -- AN UNDISTURBED RUN, proved by computing: one gear and one controller, an opening, a number that is reserved, an address that is
 -- given, and TERMINATE. It shows that the law speaks of something.
@@ -86,19 +86,23 @@ within_by : (since : Option ℕ) (at : ℕ) → within since at ≡ true → Wit
 within_by None at e = tt
 within_by (Some since) at e = grind (arith, nat_tests)
 
-abbrev are_in_time : Option ℕ → ℕ → Bool → List Entry → Bool
-are_in_time since now drew [] = is_none since
+abbrev are_in_time : Since → ℕ → Bool → List Entry → Bool
+are_in_time since now drew [] = is_none since.at && not since.is_cut
 are_in_time since now drew (x ∷ xs) =
-    within since (begins_at now drew x)
+    within since.at (begins_at now drew x)
     && are_in_time (open_since (command_of x.frame) (ends_at now drew x) since) (next_at now drew x) (is_randomise (command_of x.frame)) xs
 
 none_by : (o : Option ℕ) → is_none o ≡ true → o ≡ None
 none_by None e = refl
 none_by (Some n) e = absurd (cc)
 
-in_time_by : (xs : List Entry) (since : Option ℕ) (now : ℕ) (drew : Bool) → are_in_time since now drew xs ≡ true → AreInTime since now drew xs
-in_time_by [] since now drew e = none_by since e
-in_time_by (x ∷ xs) since now drew e = (within_by since (begins_at now drew x) (first_of_both _ _ e), in_time_by xs _ _ _ (second_of_both _ _ e))
+kept_not : (m : Bool) → not m ≡ true → m ≡ false
+kept_not true e = absurd (cc)
+kept_not false e = refl
+
+in_time_by : (xs : List Entry) (since : Since) (now : ℕ) (drew : Bool) → are_in_time since now drew xs ≡ true → AreInTime since now drew xs
+in_time_by [] since now drew e = (none_by since.at (first_of_both _ _ e), kept_not since.is_cut (second_of_both _ _ e))
+in_time_by (x ∷ xs) since now drew e = (within_by since.at (begins_at now drew x) (first_of_both _ _ e), in_time_by xs _ _ _ (second_of_both _ _ e))
 
 pub undisturbed : IsUndisturbed plan 8 log
 unfolding command_of stage_of
@@ -110,7 +114,7 @@ undisturbed = record {
   };
   factory = refl;
   calm = all_calm_by (start plan 8) log refl;
-  in_time = in_time_by (frames_of log) None 0 false refl;
+  in_time = in_time_by (frames_of log) at_first 0 false refl;
 }
 
 -- and what the audit knows after it
@@ -158,3 +162,17 @@ masked_is_run = all_allowed_by (start two 8) masked refl
 masked_is_told : findings_in (capture_of masked) ≡ record { at = 269283; kind = kind.DamagedAnswer } ∷ []
 unfolding command_of
 masked_is_told = refl
+
+-- COMPARE comes when no initialisation is open, and none follows
+abbrev cut : List Event
+cut =
+    silent 0 0xA1 0 ∷ event.Acted 0 (input.Heard Silence) (Done AllFound) ∷ silent 0 0xB1 0xFF ∷ silent 0 0xB3 0xFF ∷ silent 0 0xB5 0xFF
+    ∷ silent 0 0xA9 0 ∷ []
+
+cut_is_run : AllAllowed (start plan 8) cut
+unfolding command_of stage_of
+cut_is_run = all_allowed_by (start plan 8) cut refl
+
+cut_is_told : findings_in (capture_of cut) ≡ record { at = 127558; kind = kind.CutOff } ∷ []
+unfolding command_of
+cut_is_told = refl

@@ -1,9 +1,9 @@
-use Rattle.std.specs.Prelude.{◌≡◌, ℕ, ◌+◌, ◌<◌, ◌≤◌, Bool, true, false, List, [], ◌∷◌}
-use Rattle.std.specs.Prelude.{Option, Some, None}
+use Rattle.std.specs.Prelude.{◌≡◌, ℕ, ◌+◌, ◌<◌, ◌≤◌, Bool, true, false, ◌&&◌, ◌||◌, not, is_none}
+use Rattle.std.specs.Prelude.{List, [], ◌∷◌, Option, Some, None}
 use Rattle.dali_frame.specs.Random.{value_of, MASK24}
 use Rattle.dali_special.specs.declared.command.Command.{Command}
 use Rattle.dali_special.specs.declared.command.Command.TheVariants.{Terminate, Initialise}
-use Rattle.dali_special.specs.declared.command.Command.TheVariants.{QueryShort}
+use Rattle.dali_special.specs.declared.command.Command.TheVariants.{Compare, QueryShort}
 use Rattle.dali_special.specs.Command.{command_of}
 use Rattle.dali_gear.specs.declared.row.Reach.TheVariants.{Everyone}
 use Rattle.dali_gear.specs.Row.{heard_of, answers_of}
@@ -13,6 +13,7 @@ use Rattle.dali_script.specs.declared.stage.Stage.TheVariants.{Programmed}
 use Rattle.dali_script.specs.declared.trace.Entry.{Entry}
 use Rattle.dali_script.specs.Findings.{search_of}
 use Rattle.dali_script.specs.Stages.{stage_of}
+use Rattle.dali_audit.specs.Bus.{names_unaddressed}
 use Rattle.dali_events.specs.declared.event.Event.{Event}
 use Rattle.dali_events.specs.declared.event.Event.TheVariants as event
 use Rattle.dali_events.specs.Plan.{Plan}
@@ -49,9 +50,19 @@ DisturbNothing w [] = Unit {0}
 DisturbNothing w (e ∷ es) = DisturbsNothing w e × DisturbNothing (happens w e) es
 
 -- INITIALISATIONS: since when one is open, by the end of the last INITIALISE; none after TERMINATE
-abbrev pub open_since : Command → ℕ → Option ℕ → Option ℕ
-open_since Terminate end since = None
-open_since (Initialise target) end since = Some end
+pub record Since : Type 0 where
+  pub at : Option ℕ
+  -- and whether COMPARE came when none was, and no INITIALISE since that names gear without a short
+  -- address: so the TERMINATE of one controller may have cut the search of another one off
+  pub is_cut : Bool
+
+abbrev pub open_since : Command → ℕ → Since → Since
+open_since Terminate end since = record since { at = None }
+open_since (Initialise target) end since = record {
+  at = Some end;
+  is_cut = since.is_cut && not (names_unaddressed target);
+}
+open_since Compare end since = record since { is_cut = since.is_cut || is_none since.at }
 open_since _ end since = since
 
 -- an initialisation is over after 15 minutes (IEC 62386-102:2014, INITIALISE)
@@ -59,17 +70,20 @@ abbrev pub Within : Option ℕ → ℕ → Type 0
 Within None at = Unit {0}
 Within (Some since) at = at ≤ since + 900000000
 
--- each frame begins within that time, and at the end none is open
-abbrev pub AreInTime : Option ℕ → ℕ → Bool → List Entry → Type 0
-AreInTime since now drew [] = since ≡ None
+-- each frame begins within that time; at the end none is open, and no search is cut off
+abbrev pub AreInTime : Since → ℕ → Bool → List Entry → Type 0
+AreInTime since now drew [] = (since.at ≡ None) × (since.is_cut ≡ false)
 AreInTime since now drew (x ∷ xs) =
-    Within since (begins_at now drew x)
+    Within since.at (begins_at now drew x)
     × AreInTime (open_since (command_of x.frame) (ends_at now drew x) since) (next_at now drew x)
     (is_randomise (command_of x.frame)) xs
+
+abbrev pub at_first : Since
+at_first = record { at = None; is_cut = false }
 
 -- AN UNDISTURBED RUN of gear from the factory, whose initialisations are ended in time
 pub record IsUndisturbed (p : Plan) (capacity : ℕ) (log : List Event) : Type 0 where
   pub run : IsRun p capacity log
   pub factory : p.used ≡ []
   pub calm : DisturbNothing (start p capacity) log
-  pub in_time : AreInTime None 0 false (frames_of log)
+  pub in_time : AreInTime at_first 0 false (frames_of log)

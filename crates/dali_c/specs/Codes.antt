@@ -52,3 +52,11 @@ abbrev pub bool_of : ℕ → Option Bool
 bool_of c =
     if c == 0 then Some false else
     (if c == 1 then Some true else None)
+
+-- of roll calls: whether the last one was silent, and whether one heard gear since the last draw
+abbrev pub rolls_of : ℕ → Option (Bool × Bool)
+rolls_of c =
+    if c == 0 then Some (false, false) else
+    (if c == 1 then Some (true, false) else
+    (if c == 2 then Some (false, true) else
+    (if c == 3 then Some (true, true) else None)))

@@ -24,7 +24,7 @@ use Rattle.dali_c.specs.declared.machine.PlainMachine.{PlainMachine}
 
 -- DALI_C_VERSION
 abbrev pub VERSION : ℕ
-VERSION = 105
+VERSION = 106
 
 -- its three numbers are those of this search, and so of no other
 pub record IsPlainSearch (p : PlainState) (s : Search) : Type 0 where

@@ -4,7 +4,6 @@ use Rattle.std.specs.Prelude.{Result, Ok, Err, if◌then◌else◌}
 use Rattle.dali_frame.specs.declared.frames.Forward.{Forward}
 use Rattle.dali_script.specs.declared.orders.Input.{Input}
 use Rattle.dali_script.specs.declared.orders.Input.TheVariants as input
-use Rattle.dali_wire.specs.declared.receiver.Receiver.{Receiver}
 use Rattle.dali_port.specs.declared.orders.Half.{Half}
 use Rattle.dali_port.specs.declared.orders.Half.TheVariants.{Whole, First, Second}
 use Rattle.dali_port.specs.declared.orders.Order.{Order}
@@ -13,20 +12,17 @@ use Rattle.dali_port.specs.declared.orders.Word.TheVariants.{Heard, Destroyed, L
 use Rattle.dali_port.specs.declared.orders.Refusal.{Refusal}
 use Rattle.dali_port.specs.declared.orders.Refusal.TheVariants.{Backwards, Busy, NotLater}
 use Rattle.dali_port.specs.declared.orders.Refusal.TheVariants.{BeyondSpan}
-use Rattle.dali_port.specs.declared.state.Phase.{Phase}
-use Rattle.dali_port.specs.declared.state.Phase.TheVariants.{Free, Waiting, Sending, Breaking}
-use Rattle.dali_port.specs.declared.state.Phase.TheVariants.{Listening}
-use Rattle.dali_port.specs.declared.state.Port.{Port}
+use Rattle.dali_port.specs.declared.state.Port.{Port as Fields}
+use Rattle.dali_port.specs.State.{Port, seen}
 use Rattle.dali_port.specs.declared.state.Read.{Read}
 use Rattle.dali_port.specs.declared.state.Read.TheVariants.{Frame, NoPower}
 use Rattle.dali_port.specs.declared.state.Event.{Event}
 use Rattle.dali_port.specs.Calls.{drive_of}
 use Rattle.dali_c.specs.Codes.{input_of, bool_of}
 use Rattle.dali_c.specs.Passes.{is_so}
-use Rattle.dali_c.specs.Receivers.{receiver_of, window_of, number_of, IsTold}
+use Rattle.dali_c.specs.Receivers.{number_of, IsTold}
 use Rattle.dali_c.specs.declared.orders.PlainOrder.{PlainOrder}
 use Rattle.dali_c.specs.declared.receivers.PlainTold.{PlainTold}
-use Rattle.dali_c.specs.declared.port.PlainPort.{PlainPort}
 use Rattle.dali_c.specs.declared.port.PlainEvent.{PlainEvent}
 
 -- THE CLOCK of a driver counts µs in 32 bits. A time stands for the one that is less than half a
@@ -44,10 +40,7 @@ abbrev pub ticks_of : ℕ → Option ℕ → ℕ
 ticks_of called None = min (called + 2 ^ 30) (2 ^ 64 - 1) % 2 ^ 32
 ticks_of called (Some at) = at % 2 ^ 32
 
--- WHAT struct dali_port STANDS FOR. A byte that says yes or no says no if it is 0.
-abbrev pub moment_of : ℕ → ℕ → Option ℕ
-moment_of has at = if is_so has then Some at else None
-
+-- WHAT IS HANDED IN
 abbrev pub half_of : ℕ → Option Half
 half_of c =
     if c == 0 then Some Whole else
@@ -69,11 +62,6 @@ abbrev pub order_by : ℕ → Forward → ℕ → ℕ → ℕ → Option Order
 order_by priority frame half asks drawn =
     order_with priority frame (half_of half) (is_so asks) drawn
 
-abbrev pub order_in : PlainPort → Option Order
-order_in p =
-    order_by p.priority (record { address_byte = p.address_byte; opcode_byte = p.opcode_byte })
-    p.half p.asks p.drawn
-
 -- what a machine orders, if it is a frame
 abbrev pub order_sent : PlainOrder → ℕ → Option Order
 order_sent o drawn =
@@ -81,42 +69,6 @@ order_sent o drawn =
     then order_by o.priority (record { address_byte = o.address_byte; opcode_byte = o.opcode_byte })
     o.half o.asks drawn
     else None
-
--- its phase: 0 to 4
-abbrev pub phase_of : PlainPort → Option Phase
-phase_of p =
-    if p.phase == 0 then Some Free else
-    (if p.phase == 1 then option_map (λ o. Waiting o) (order_in p) else
-    (if p.phase == 2 then option_map (λ o. Sending (record {
-      order = o;
-      half = p.at_half;
-      since = p.since;
-      agreed = p.agreed;
-      driven = p.driven;
-    })) (order_in p) else
-    (if p.phase == 3 then Some (Breaking p.since) else
-    (if p.phase == 4
-    then option_map (λ w. Listening (record { asks = is_so p.asks; window = w }))
-    (window_of p.window)
-    else None))))
-
-abbrev pub port_with : PlainPort → Option Receiver → Option Phase → Option Port
-port_with p (Some receiver) (Some phase) = Some (record {
-  called = p.called;
-  edge = p.edge;
-  is_low = is_so p.is_low;
-  is_powerless = is_so p.is_powerless;
-  receiver = receiver;
-  is_over = is_so p.is_over;
-  first = moment_of p.has_first p.first;
-  randomise = moment_of p.has_randomise p.randomise;
-  draws = moment_of p.has_draws p.draws;
-  phase = phase;
-})
-port_with p _ _ = None
-
-abbrev pub port_of : PlainPort → Option Port
-port_of p = port_with p (receiver_of p.receiver) (phase_of p)
 
 -- WHAT A CALL TELLS: what the frame came to, as a machine is told it, or 0; and what was read, with
 -- the kinds of enum dali_frame_kind
@@ -151,9 +103,14 @@ refusal_code Busy = 11
 refusal_code NotLater = 3
 refusal_code BeyondSpan = 3
 
-abbrev pub Answers : PlainPort → PlainPort → PlainEvent → PlainEvent → ℕ → Port
+abbrev pub Answers : Fields → Fields → PlainEvent → PlainEvent → ℕ → Port
     → Result Event Refusal → Type 0
 Answers old new before event status after (Ok told) =
-    (status ≡ 0) × (port_of new ≡ Some after) × IsEvent event told after
+    (status ≡ 0) × (seen new ≡ after) × IsEvent event told after
 Answers old new before event status after (Err refusal) =
     (status ≡ refusal_code refusal) × (new ≡ old) × (event ≡ before)
+
+-- the same of the event alone, at the port after it
+abbrev pub Tells : Fields → PlainEvent → PlainEvent → ℕ → Result Event Refusal → Type 0
+Tells p before event status (Ok told) = (status ≡ 0) × IsEvent event told (seen p)
+Tells p before event status (Err refusal) = (status ≡ refusal_code refusal) × (event ≡ before)

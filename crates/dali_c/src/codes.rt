@@ -2,7 +2,7 @@
 
 ghost use Rattle.std.specs.Prelude.{◌≡◌, ◌<◌, Some};
 ghost use Rattle.dali_script.specs.declared.orders.Input.TheVariants.{Heard};
-ghost use Rattle.dali_c.specs.Codes.{answer_of, input_of, bool_of, due_code, half_code};
+ghost use Rattle.dali_c.specs.Codes.{answer_of, input_of, bool_of, rolls_of, due_code, half_code};
 
 use dali_frame::Answer;
 use dali_script::{Due, Half, Input};
@@ -86,4 +86,29 @@ pub(crate) fn bool_code(is_so: bool) -> u8
     ensures { bool_of result ≡ Some is_so }
 {
     u8::from(is_so)
+}
+
+/// Whether the last roll call was silent, and whether one heard gear since gear were to draw last.
+pub(crate) fn rolls_of(code: u8) -> Option<(bool, bool)>
+    ensures { result ≡ rolls_of code }
+{
+    match code {
+        0 => Some((false, false)),
+        1 => Some((true, false)),
+        2 => Some((false, true)),
+        3 => Some((true, true)),
+        _ => None,
+    }
+}
+
+/// The code of the two.
+pub(crate) fn rolls_code(is_silent: bool, is_heard: bool) -> u8
+    ensures { rolls_of result ≡ Some (is_silent, is_heard) }
+{
+    match (is_silent, is_heard) {
+        (false, false) => 0,
+        (true, false) => 1,
+        (false, true) => 2,
+        (true, true) => 3,
+    }
 }

@@ -19,7 +19,7 @@ use dali_controller::{Leg, State, Way};
 use dali_search::Search;
 
 /// The version of the structs and calls, `DALI_C_VERSION` of the header. It counts up with each change of one of them.
-pub(crate) const VERSION: u8 = 105;
+pub(crate) const VERSION: u8 = 106;
 
 /// A machine without its records. Its fields are those of [`State`], with the leg in parts: `opened` and `way` say
 /// which it is; `from`, `asked`, a search as three numbers and an ascent are what legs have. The set `heard` is the

@@ -3,17 +3,17 @@
 ghost use Rattle.std.specs.Prelude.{◌≡◌, Some};
 ghost use Rattle.dali_c.specs.Tallies.{tally_of, numbers_of, failed_of};
 
-use crate::codes::bool_of;
+use crate::codes::{bool_of, rolls_code, rolls_of};
 use crate::pairs::PlainRandom;
 use dali_controller::{Passed, Tally};
 use dali_frame::Random24;
 
-/// A [`Tally`]. `failed` is read only if `has_failed` is 1.
+/// A [`Tally`]. `rolls` is what was heard of roll calls; `failed` is read only if `has_failed` is 1.
 #[repr(C)]
 #[derive(Clone, Copy)]
 pub struct PlainTally {
     pub draws: u8,
-    pub is_silent: u8,
+    pub rolls: u8,
     pub calls: u8,
     pub askings: u8,
     pub is_missed: u8,
@@ -33,7 +33,7 @@ impl PlainTally {
         };
         PlainTally {
             draws: tally.draws,
-            is_silent: u8::from(tally.is_silent),
+            rolls: rolls_code(tally.is_silent, tally.is_heard),
             calls: tally.calls,
             askings: tally.askings,
             is_missed: u8::from(tally.is_missed),
@@ -48,12 +48,13 @@ impl PlainTally {
     pub(crate) fn read(&self) -> Option<Tally>
         ensures { result ≡ tally_of self.now }
     {
-        let is_silent = bool_of(self.is_silent)?;
+        let (is_silent, is_heard) = rolls_of(self.rolls)?;
         let is_missed = bool_of(self.is_missed)?;
         let failed = read_failed(bool_of(self.has_failed)?, self.failed);
         Some(Tally {
             draws: self.draws,
             is_silent,
+            is_heard,
             calls: self.calls,
             askings: self.askings,
             is_missed,

@@ -5,20 +5,20 @@ use Rattle.std.specs.declared.alloc.Global.{Global}
 use Rattle.std.specs.declared.string.String.{String}
 use Rattle.dali_script.specs.Records.{Kept}
 use Rattle.dali_commission_said.specs.declared.said.Said.{Said}
-use Rattle.dali_commission_stores.specs.Calls.{Call, Look, Has, Lies, Read}
+use Rattle.dali_commission_stores.specs.{Calls.{Call, Look, Has, Read}, Seen.LiesOnLine}
 use Rattle.dali_commission_cleared.specs.Clearing.{AddsFilled, AreFilled, IsNewAside, AreNewAside}
 use Rattle.dali_commission_stores.specs.Keeping.{IsAside}
 
 -- a file is not there, at the place of a name
 pub not_there : {F : Type 0} (saw : F → Look → Type 0) (x : F) (name at : List ℕ) (place : String Global) (before after : List (String Global))
-    → saw x (Lies name (string_bytes place)) → at ≡ string_bytes place → saw x (Has at false) → after ≡ before
+    → LiesOnLine saw x name (string_bytes place) → at ≡ string_bytes place → saw x (Has at false) → after ≡ before
     → AddsFilled saw x name before after
 not_there saw x name at place before after lies is none same =
     (place, lies, inl (subst (λ (a : List ℕ). saw x (Has a false)) is none, same))
 
 -- it was read there
 pub was_read : {F : Type 0} (saw : F → Look → Type 0) (x : F) (name at : List ℕ) (place : String Global) (before after : List (String Global))
-    (k : Kept) (bare : Bool) → saw x (Lies name (string_bytes place)) → at ≡ string_bytes place → saw x (Read at k)
+    (k : Kept) (bare : Bool) → LiesOnLine saw x name (string_bytes place) → at ≡ string_bytes place → saw x (Read at k)
     → IsTrue bare ↔ ((k.reserved ≡ []) × (k.enrolled ≡ [])) → after ≡ (if bare then before else before ++ place ∷ [])
     → AddsFilled saw x name before after
 was_read saw x name at place before after k bare lies is seen told same =
@@ -26,7 +26,7 @@ was_read saw x name at place before after k bare lies is seen told same =
 
 -- and its place was added
 pub added : {F E : Type 0} (saw : F → Look → Type 0) (x : F) (name at : List ℕ) (place : String Global) (before after : List (String Global))
-    (k : Kept) (r : Result (Unit {0}) E) → saw x (Lies name (string_bytes place)) → at ≡ string_bytes place → saw x (Read at k)
+    (k : Kept) (r : Result (Unit {0}) E) → LiesOnLine saw x name (string_bytes place) → at ≡ string_bytes place → saw x (Read at k)
     → IsTrue false ↔ ((k.reserved ≡ []) × (k.enrolled ≡ [])) → OnOk r (after ≡ before ++ place ∷ [])
     → OnOk r (AddsFilled saw x name before after)
 added saw x name at place before after k (Ok done) lies is seen told same =
@@ -51,7 +51,7 @@ one_more saw x at name all more before mid after (Err e) begins is adds rest = t
 
 -- the new file of a name is put aside, at its place
 pub new_aside : {F E : Type 0} (made : F → F → Call → Type 0) (saw : F → Look → Type 0) (told : Said → Type 0) (x y : F) (name at : List ℕ)
-    (place : String Global) (r : Result (Unit {0}) E) → saw x (Lies name (string_bytes place)) → at ≡ string_bytes place
+    (place : String Global) (r : Result (Unit {0}) E) → LiesOnLine saw x name (string_bytes place) → at ≡ string_bytes place
     → OnOk r (IsAside made saw told at x y) → OnOk r (IsNewAside made saw told name x y)
 new_aside made saw told x y name at place (Ok done) lies is aside = (place, lies, subst (λ (a : List ℕ). IsAside made saw told a x y) is aside)
 new_aside made saw told x y name at place (Err e) lies is aside = tt

@@ -22,6 +22,7 @@ use Rattle.dali_commission_said.specs.declared.failure.Failure.TheVariants.{Nobo
 use Rattle.dali_commission_said.specs.Failures.{failure_of}
 use Rattle.dali_commission_stores.specs.Calls.{Call, Renamed, Look, AreMade}
 use Rattle.dali_commission_stores.specs.Calls as look
+use Rattle.dali_commission_stores.specs.Seen.{LiesOnLine}
 use Rattle.dali_commission_cleared.specs.Erasing.{begun, erasing_next, erasing_told}
 use Rattle.dali_commission_asked.specs.Frames.{AreFrames}
 use Rattle.dali_commission_said.specs.declared.report.Report.{Report}
@@ -49,7 +50,7 @@ abbrev pub AddsFilled : {F : Type 0} → (F → Look → Type 0) → F → List 
     → List (String Global) → Type 0
 AddsFilled saw x name before after =
     (place : String Global)
-    × saw x (look.Lies name (string_bytes place))
+    × LiesOnLine saw x name (string_bytes place)
     × ((saw x (look.Has (string_bytes place) false) × (after ≡ before))
     ⊎ ((k : Kept)
     × (bare : Bool)
@@ -80,7 +81,7 @@ abbrev pub IsNewAside : {F : Type 0} → (F → F → Call → Type 0) → (F �
     → (Said → Type 0) → List ℕ → F → F → Type 0
 IsNewAside made saw told name x y =
     (place : String Global)
-    × saw x (look.Lies name (string_bytes place))
+    × LiesOnLine saw x name (string_bytes place)
     × IsAside made saw told (string_bytes place) x y
 
 abbrev pub AreNewAside : {F : Type 0} → (F → F → Call → Type 0) → (F → Look → Type 0)

@@ -6,7 +6,9 @@ ghost use Rattle.dali_commission_cleared.specs.Clearing.{asides, AddsFilled, Are
 ghost use Rattle.dali_commission_cleared.specs.Clearing.{AreNewAside};
 
 use dali_commission_said::{Failure, Voice, add, or_say, say_refused};
-use dali_commission_stores::{Holder, Stores, free_number, put_one_aside, read, say_kept};
+use dali_commission_stores::{
+    Holder, Stores, free_number, place_of, put_one_aside, read, say_kept,
+};
 use dali_replacement::kept_of;
 use dali_script::Kept;
 
@@ -55,7 +57,8 @@ impl<'a, S: Voice + AllocGlobal, F: Stores, D> Holder<F, D> for Setting<'a, S> {
     ghost dues = { λ setting _ from to _ _ result. (to ≡ from) × IfOk result (λ due.
         (due.0.now ≡ setting.names.now) × (due.1.now ≡ setting.records.now)) };
 
-    ghost ends = { λ _ from to due number. AreRenamed F.made F.saw due.1.now due.0.now number from to };
+    ghost ends = { λ _ from to due result. IfOk result (λ number.
+        AreRenamed F.made F.saw due.1.now due.0.now number from to) };
 
     fn refused(&self, name: &str, failure: Failure) -> Failure {
         say_refused(self.system, name, failure)
@@ -97,10 +100,7 @@ fn add_filled<S: Voice + AllocGlobal, F: Stores>(
 ) -> Result<(), Failure>
     ensures { OnOk result (AddsFilled F.saw stores.now name.now places.old.items places.new.items) }
 {
-    let place = match stores.place_of(system.alloc(), name) {
-        Ok(place) => place,
-        Err(failure) => return Err(say_refused(system, name, failure)),
-    };
+    let place = place_of(system, stores, name)?;
     if !stores.has(&place) {
         return Ok(());
     }
@@ -155,10 +155,7 @@ fn put_its_new_aside<S: Voice + AllocGlobal, F: Stores>(
 ) -> Result<(), Failure>
     ensures { OnOk result (IsNewAside F.made F.saw (S.told system.now) name.now stores.old stores.new) }
 {
-    let place = match stores.place_of(system.alloc(), name) {
-        Ok(place) => place,
-        Err(failure) => return Err(say_refused(system, name, failure)),
-    };
+    let place = place_of(system, stores, name)?;
     put_one_aside(system, stores, &place)
 }
 

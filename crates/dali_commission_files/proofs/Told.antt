@@ -1,17 +1,18 @@
 use Rattle.std.proofs.Common.{◌≡◌, inl, inr, refl, sym, ap, subst, ◌∙◌, List, [], ◌∷◌, ◌++◌, ℕ, Bor, arith}
 use Rattle.std.proofs.Common.{Bool, false, IsTrue, ◌↔◌}
-use Rattle.std.proofs.Common.{Result, Ok, Err, IfErr, IfOk, IsErr, Option, Some, None, IfSome}
+use Rattle.std.proofs.Common.{Result, Ok, Err, IfErr, IsErr, Option, Some, None, IfSome}
 use Rattle.std.proofs.lemmas.List.{map-append}
 use Rattle.sqlite.specs.declared.error.Error.{Error}
 use Rattle.dali_reserve.specs.declared.error.KeepError.TheVariants.{NoMemory}
+use Rattle.dali_commission_said.specs.declared.failure.Failure.{Failure}
 use Rattle.dali_commission_said.specs.declared.failure.StoreFault.{StoreFault}
 use Rattle.dali_commission_said.specs.declared.failure.StoreFault.TheVariants.{Store}
 use Rattle.std.specs.declared.alloc.Global.{Global}
 use Rattle.std.specs.declared.string.String.{String}
-use Rattle.std.specs.Prelude.{string_bytes}
+use Rattle.std.specs.Prelude.{IsErrAnd, string_bytes}
 use Rattle.dali_script.specs.Records.{Kept}
 use Rattle.dali_commission_stores.specs.Calls.{Look, Read}
-use Rattle.dali_commission_stores.specs.Lent.{AreRead}
+use Rattle.dali_commission_stores.specs.Lent.{AreRead, HeldSo}
 use Rattle.dali_commission_files.specs.Faults.{closed_fault, IsUnread, IsUnwritten, IsUnopened}
 use Rattle.dali_commission_files.specs.Logs.{IsDamaged}
 use Rattle.dali_commission_files.specs.Opened.{names_of}
@@ -36,14 +37,21 @@ one_more xs ys name c e = ap names_of e ∙ map-append (λ it. it.0.now) xs ((na
 pub whole : (b : Bool) (log own : List ℕ) → b ≡ false → (IsTrue b ↔ IsDamaged log) → own ≡ log → IsDamaged own → ⊥
 whole b log own e says same is = let so = says.1 (subst (λ l. IsDamaged l) same is) in grind (arith, e, so)
 
--- a result that is refused, and one that is told more of
-pub not_ok : {T E : Type 0} (r : Result T E) (P : T → Type 0) → IsErr r → IfOk r P
-not_ok (Ok it) P is = absurd (grind (arith, is))
-not_ok (Err error) P is = tt
+-- what was held, if it failed, or the files cannot be closed, or what was due is done then
+module _ {F H Due Out : Type 0} (ends : H → F → F → Due → Result Out Failure → Type 0) (at now : F) (did shown : Result Due Failure) where
+  pub held_badly : (why : Failure) (r : Result Out Failure) → IsErr r → IsErrAnd r (λ e. e ≡ why) → shown ≡ Err why → shown ≡ did → now ≡ at
+      → HeldSo ends at now did r
+  held_badly why (Ok out) err fails is same stays = absurd (grind (arith, err))
+  held_badly why (Err e) err fails is same stays = inl (sym same ∙ is ∙ ap (λ f. Err f) (sym fails), stays)
 
-pub more : {T E : Type 0} (r : Result T E) (P Q : T → Type 0) → ((it : T) → P it → Q it) → IfOk r P → IfOk r Q
-more (Ok it) P Q so h = so it h
-more (Err error) P Q so h = tt
+  pub not_closed : (due : Due) (r : Result Out Failure) → IsErr r → shown ≡ Ok due → shown ≡ did → now ≡ at → HeldSo ends at now did r
+  not_closed due (Ok out) err is same stays = absurd (grind (arith, err))
+  not_closed due (Err e) err is same stays = inr (due, sym same ∙ is, inl stays)
+
+pub then_done : {F H Due Out : Type 0} (ends : H → F → F → Due → Result Out Failure → Type 0) (at now : F) (did : Result Due Failure) (by : H) (due : Due)
+    (r : Result Out Failure) → did ≡ Ok due → ends by at now due r → HeldSo ends at now did r
+then_done ends at now did by due (Ok out) is so = (by, due, is, so)
+then_done ends at now did by due (Err e) is so = inr (due, is, inr (by, so))
 
 abbrev pub IsFine : {T E : Type 0} → Result T E → Type 0
 IsFine (Ok it) = Unit {0}

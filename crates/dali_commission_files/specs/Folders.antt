@@ -1,8 +1,9 @@
 use Rattle.std.specs.Prelude.{ℕ, List, [], ◌∷◌, ◌++◌, codes}
-use Rattle.dali_folder.specs.Events.{Event, Likens, Sight, writing, removing, renaming}
+use Rattle.dali_folder.specs.Events.{Event, Likens, SyncsFolder, Sight, writing, removing}
+use Rattle.dali_folder.specs.Events.{renaming}
 use Rattle.dali_folder.specs.Events as folder
 use Rattle.dali_folder.specs.Lying as lying
-use Rattle.dali_commission_stores.specs.Calls.{Call, Wrote, Renamed, Likened, Removed}
+use Rattle.dali_commission_stores.specs.Calls.{Call, Wrote, Renamed, Likened, Removed, Synced}
 use Rattle.dali_commission_stores.specs.Calls.{Opened, Closed, Look, Has, Text, Lies, Read, Alone}
 
 -- WHAT A CALL of the places where records are kept does in folders: a text is written to a file
@@ -13,6 +14,7 @@ events_of (Wrote name text) = writing (name ++ codes ".part") name text
 events_of (Renamed from to) = renaming (to ++ codes "-wal") from to
 events_of (Likened name to) = Likens name to ∷ []
 events_of (Removed name) = removing name
+events_of (Synced name) = SyncsFolder name ∷ []
 events_of (Opened name) = []
 events_of (Closed name) = []
 

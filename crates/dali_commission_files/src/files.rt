@@ -563,4 +563,8 @@ impl<'a, F: Folder + Databases> Stores for Files<'a, F> {
     fn remove(&mut self, _alloc: Global, name: &str) -> Result<(), Failure> {
         answered(remove_whole(&mut self.folder, name))
     }
+
+    fn sync(&mut self, name: &str) -> Result<(), Failure> {
+        answered(self.folder.sync_folder(name))
+    }
 }

@@ -7,7 +7,7 @@ use Rattle.dali_mending.specs.Mending.{Mending}
 use Rattle.dali_replacement.specs.Tables.{IsGathered, AreOf}
 use Rattle.dali_commission_said.specs.declared.{failure.Failure.Failure, report.Report.Report, report.Session.Session, said.Said.Said}
 use Rattle.dali_commission_said.specs.declared.failure.Failure.TheVariants.{Shared}
-use Rattle.dali_commission_said.specs.Reports.{no_report}
+use Rattle.dali_commission_said.specs.{Reports.no_report, Said.AreTold}
 use Rattle.dali_commission_tasks.specs.declared.tasks.{Mend.Mend, Setup.Setup}
 use Rattle.dali_commission_stores.specs.{Calls.Look, declared.records.Seen.Seen, Lent.{IsLent, IsOpened, IsUnread, AreRead}}
 use Rattle.dali_commission_asked.specs.Sharing.{reserved_in}
@@ -17,22 +17,23 @@ use Rattle.dali_commission_mended.specs.Tellings.{with_enrolled}
 
 -- what a mend comes to, well or not
 pub ends_so : {S : Type 0} (is_up is_sound : S → Type 0) (holds : S → List Record → Type 0) (kept_of : S → Kept) (block : Block) (table before : Kept)
-    (others : List Block) (wanted : Mend) (ms : List Mending) (was keep : S) (x y : Talk) (report : Report) (ended : Result (Unit {0}) Failure)
-    → MendsFrom is_up is_sound holds kept_of block table before others wanted ms was keep x y report ended
-    → EndsMend is_up is_sound holds kept_of block table before others wanted ms was keep x y report ended
-ends_so is_up is_sound holds kept_of block table before others wanted ms was keep x y report (Ok done) is = is
-ends_so is_up is_sound holds kept_of block table before others wanted ms was keep x y report (Err e) is = inl is
+    (others : List Block) (wanted : Mend) (ms : List Mending) (was keep : S) (x y : Talk) (frames : ℕ) (report : Report) (ended : Result (Unit {0}) Failure)
+    → MendsFrom is_up is_sound holds kept_of block table before others wanted ms was keep x y frames report ended
+    → EndsMend is_up is_sound holds kept_of block table before others wanted ms was keep x y frames report ended
+ends_so is_up is_sound holds kept_of block table before others wanted ms was keep x y frames report (Ok done) is = is
+ends_so is_up is_sound holds kept_of block table before others wanted ms was keep x y frames report (Err e) is = inl is
 
 -- A MEND over records that were read first, and last if it ended well.
 module _ {S : Type 0} (is_up is_sound : S → Type 0) (holds : S → List Record → Type 0) (kept_of : S → Kept) (block at : Block) where
-  pub not_mended : (others : List Block) (wanted : Mend) (tables : List Kept) (was opened mid : S) (x y : Talk) (frames : ℕ) (old report : Report)
+  pub not_mended : (told : Said → Type 0) (others : List Block) (wanted : Mend) (tables : List Kept) (was opened mid : S) (x y : Talk) (frames : ℕ)
+      (old report : Report)
       (failure : Failure) (before table : Kept) (ms : List Mending) (came : Report) (ended : Result (Unit {0}) Failure) → at ≡ block
       → IsRead is_up is_sound holds block was opened before
       → IsGathered 64 (tables ++ before ∷ []) table → AreOf table.enrolled [] (tables ++ before ∷ [])
-      → EndsMend is_up is_sound holds kept_of at table before others wanted ms opened mid x y came ended
-      → IsReported failure old came ended frames report
-      → HasNotMended is_up is_sound holds kept_of block others wanted tables was x y frames old report failure
-  not_mended others wanted tables was opened mid x y frames old report failure before table ms came ended same reads gathered of_these mends reports =
+      → EndsMend is_up is_sound holds kept_of at table before others wanted ms opened mid x y frames came ended
+      → IsReported told ms failure old came ended frames report
+      → HasNotMended is_up is_sound holds kept_of block told others wanted tables was x y frames old report failure
+  not_mended told others wanted tables was opened mid x y frames old report failure before table ms came ended same reads gathered of_these mends reports =
       record {
         before = before;
         opened = opened;
@@ -44,7 +45,7 @@ module _ {S : Type 0} (is_up is_sound : S → Type 0) (holds : S → List Record
         mid = mid;
         came = came;
         ended = ended;
-        ends = subst (λ b. EndsMend is_up is_sound holds kept_of b table before others wanted ms opened mid x y came ended) same mends;
+        ends = subst (λ b. EndsMend is_up is_sound holds kept_of b table before others wanted ms opened mid x y frames came ended) same mends;
         reports = reports;
       }
 
@@ -52,11 +53,12 @@ module _ {S : Type 0} (is_up is_sound : S → Type 0) (holds : S → List Record
       (report : Report) (before table after : Kept) (ms : List Mending) (of : Block) (came : Report) → at ≡ block
       → IsRead is_up is_sound holds block was opened before
       → IsGathered 64 (tables ++ before ∷ []) table → AreOf table.enrolled [] (tables ++ before ∷ [])
-      → MendsFrom is_up is_sound holds kept_of at table before others wanted ms opened mid x y came (Ok tt)
-      → IsRead is_up is_sound holds of mid keep after → AreMendsTold told ms → report ≡ record came { frames = frames }
+      → MendsFrom is_up is_sound holds kept_of at table before others wanted ms opened mid x y frames came (Ok tt)
+      → IsRead is_up is_sound holds of mid keep after → AreMendsTold told after ms → AreTold told came.said.items
+      → report ≡ record came { frames = frames }
       → HasMended is_up is_sound holds kept_of block told others wanted tables was keep x y frames report
   mended told others wanted tables was opened mid keep x y frames report before table after ms of came same reads gathered of_these mends last said
-      reports = record {
+      tells reports = record {
         before = before;
         opened = opened;
         reads = reads;
@@ -66,11 +68,12 @@ module _ {S : Type 0} (is_up is_sound : S → Type 0) (holds : S → List Record
         ms = ms;
         mid = mid;
         came = came;
-        mends = subst (λ b. MendsFrom is_up is_sound holds kept_of b table before others wanted ms opened mid x y came (Ok tt)) same mends;
+        mends = subst (λ b. MendsFrom is_up is_sound holds kept_of b table before others wanted ms opened mid x y frames came (Ok tt)) same mends;
         after = after;
         of = of;
         reads_last = last;
         said = said;
+        tells = tells;
         reports = reports;
       }
 
@@ -80,11 +83,12 @@ module _ {S : Type 0} (is_up is_sound : S → Type 0) (holds : S → List Record
         (why : Failure) → at ≡ block → IsRead is_up is_sound holds block was opened before
         → IsGathered 64 (tables ++ before ∷ []) table → AreOf table.enrolled [] (tables ++ before ∷ [])
         → EndsMend is_up is_sound holds kept_of at table before others wanted ms opened mid (talk_of remaining contents x.driver)
-        (talk_of remaining contents y.driver) came ended → result ≡ Err why → IsUnread why → y.report ≡ record x.report { frames = lines_of y.driver }
+        (talk_of remaining contents y.driver) (lines_of y.driver) came ended → result ≡ Err why → IsUnread why
+        → y.report ≡ record x.report { frames = lines_of y.driver }
         → MendsOver is_up is_sound holds kept_of block remaining contents told others wanted tables was keep x y result
     unread_over others wanted tables was opened mid keep x y result before table ms came ended why same reads gathered of_these mends fails unread
         reports =
-        rw fails (inr (not_mended others wanted tables was opened mid _ _ _ _ _ why before table ms came ended same reads gathered of_these mends
+        rw fails (inr (not_mended told others wanted tables was opened mid _ _ _ _ _ why before table ms came ended same reads gathered of_these mends
         (inr (unread, reports))))
 
     pub mended_so : (others : List Block) (wanted : Mend) (tables : List Kept) (was opened mid keep : S) (x y : Session R W)
@@ -92,17 +96,18 @@ module _ {S : Type 0} (is_up is_sound : S → Type 0) (holds : S → List Record
         (ms : List Mending) (of : Block) (came : Report) (ended : Result (Unit {0}) Failure) → at ≡ block → IsRead is_up is_sound holds block was opened before
         → IsGathered 64 (tables ++ before ∷ []) table → AreOf table.enrolled [] (tables ++ before ∷ [])
         → EndsMend is_up is_sound holds kept_of at table before others wanted ms opened mid (talk_of remaining contents x.driver)
-        (talk_of remaining contents y.driver) came ended
-        → IsRead is_up is_sound holds of mid keep after → AreMendsTold told ms → result ≡ ended → y.report ≡ record came { frames = lines_of y.driver }
+        (talk_of remaining contents y.driver) (lines_of y.driver) came ended
+        → IsRead is_up is_sound holds of mid keep after → AreMendsTold told after ms → AreTold told came.said.items → result ≡ ended
+        → y.report ≡ record came { frames = lines_of y.driver }
         → MendsOver is_up is_sound holds kept_of block remaining contents told others wanted tables was keep x y result
     mended_so others wanted tables was opened mid keep x y result before table after ms of came (Err e) same reads
-        gathered of_these mends last said is reports =
-        rw is (inr (not_mended others wanted tables was opened mid _ _ _ _ _ e before table ms came (Err e) same reads gathered of_these mends
-        (inl (refl, reports))))
+        gathered of_these mends last said tells is reports =
+        rw is (inr (not_mended told others wanted tables was opened mid _ _ _ _ _ e before table ms came (Err e) same reads gathered of_these mends
+        (inl (refl, reports, tells, (after, said)))))
     mended_so others wanted tables was opened mid keep x y result before table after ms of came (Ok tt) same reads
-        gathered of_these mends last said is reports =
+        gathered of_these mends last said tells is reports =
         rw is (mended told others wanted tables was opened mid keep _ _ _ _ before table after ms of came same reads gathered of_these mends last said
-        reports)
+        tells reports)
 
 -- all gear that share a short address are mended, if none is named and none is missing
 pub all_mended : {S R W : Type 0} (is_up is_sound : S → Type 0) (holds : S → List Record → Type 0) (kept_of : S → Kept) (block mended : Block)

@@ -136,14 +136,14 @@ FromCut is_up is_sound holds kept_of block table records others wanted failure k
 -- A MEND ENDS SO, well or not. Nothing is reported of one that is cut short.
 abbrev pub EndsMend : {S : Type 0} (is_up is_sound : S → Type 0)
     (holds : S → List Record → Type 0) (kept_of : S → Kept) → Block → Kept → Kept → List Block
-    → Mend → List Mending → S → S → Talk → Talk → Report → Result (Unit {0}) Failure → Type 0
-EndsMend is_up is_sound holds kept_of block table records others wanted ms was keep x y report
-    (Ok done) =
-    MendsFrom is_up is_sound holds kept_of block table records others wanted ms was keep x y report
-    (Ok done)
-EndsMend is_up is_sound holds kept_of block table records others wanted ms was keep x y report
-    (Err failure) =
-    MendsFrom is_up is_sound holds kept_of block table records others wanted ms was keep x y report
-    (Err failure)
+    → Mend → List Mending → S → S → Talk → Talk → ℕ → Report → Result (Unit {0}) Failure → Type 0
+EndsMend is_up is_sound holds kept_of block table records others wanted ms was keep x y frames
+    report (Ok done) =
+    MendsFrom is_up is_sound holds kept_of block table records others wanted ms was keep x y frames
+    report (Ok done)
+EndsMend is_up is_sound holds kept_of block table records others wanted ms was keep x y frames
+    report (Err failure) =
+    MendsFrom is_up is_sound holds kept_of block table records others wanted ms was keep x y frames
+    report (Err failure)
     ⊎ (FromCut is_up is_sound holds kept_of block table records others wanted failure keep x y
     × (report ≡ no_report))

@@ -23,7 +23,8 @@ use Rattle.dali_commission_said.specs.declared.reports.Which.TheVariants as whic
 use Rattle.dali_commission_said.specs.declared.said.Said.{Said}
 use Rattle.dali_commission_said.specs.declared.said.Said.TheVariants as said
 use Rattle.dali_commission_said.specs.Reports.{heard_of, places_reported, reported, run_reported}
-use Rattle.dali_commission_said.specs.Reports.{table_of}
+use Rattle.dali_commission_said.specs.Reports.{table_of, RunSaid}
+use Rattle.dali_commission_said.specs.declared.progress.Aim.{Aim}
 use Rattle.dali_commission_said.specs.Said.{places_said}
 use Rattle.dali_commission_tasks.specs.declared.tasks.Mend.{Mend}
 use Rattle.dali_commission_asked.specs.Ending.{HasAskedAtLast, none_left, pass_at_last}
@@ -79,14 +80,16 @@ abbrev pub mended_reported : PassEnd → Kept → Kept → Shorts → List Said 
 mended_reported pass before after left lines =
     record (run_reported pass before after lines) { left_alone = record { items = heard_of left } }
 
-abbrev pub MendedSo : PassEnd → Kept → Kept → List Reply → List Mending → Report
+abbrev pub MendedSo : PassEnd → Kept → Kept → List Reply → List Mending → ℕ → Report
     → Result (Unit {0}) Failure → Talk → Talk → Type 0
-MendedSo pass before after replies ms report ended x y =
+MendedSo pass before after replies ms frames report ended x y =
     (last : AtLast)
     × HasAskedAtLast pass after.enrolled last x y
     × (ended ≡ mended_as pass last replies ms)
     × (report ≡ mended_reported (pass_at_last pass last) before after
     (with_left last.left.heard ms) report.said.items)
+    × ((aim : Aim)
+    × RunSaid (pass_at_last pass last) before after aim frames report.said.items)
 
 -- of one behind which no survey may enrol gear, and of one that is refused
 abbrev pub unsurveyed_reported : Kept → List Mending → Report
@@ -101,10 +104,10 @@ refused_reported stand = places_reported stand (places_said which.Wrong 0 stand)
 -- were not told apart where a survey would enrol a gear
 abbrev pub Follows : {S : Type 0} (is_up is_sound : S → Type 0)
     (holds : S → List Record → Type 0) (kept_of : S → Kept) → Block → Kept → List Assignment
-    → Kept → List Reply → List Mending → S → S → Talk → Talk → Report → Result (Unit {0}) Failure
-    → Type 0
+    → Kept → List Reply → List Mending → S → S → Talk → Talk → ℕ → Report
+    → Result (Unit {0}) Failure → Type 0
 Follows {S = S} is_up is_sound holds kept_of block table hanging before replies ms was keep x y
-    report ended =
+    frames report ended =
     ((is_any_bare replies ms ≡ true)
     × (ended ≡ Err (why_open (is_any_left_shared replies ms)))
     × (report ≡ unsurveyed_reported before ms)
@@ -115,27 +118,27 @@ Follows {S = S} is_up is_sound holds kept_of block table hanging before replies 
     × (mid : S)
     × (at : Talk)
     × HasSurveyed is_up is_sound holds kept_of block table hanging mid x at pass
-    × MendedSo pass before (kept_of keep) replies ms report ended at y))
+    × MendedSo pass before (kept_of keep) replies ms frames report ended at y))
 
 -- MENDED: each short address that is meant, and what follows
 abbrev pub HasMendedSo : {S : Type 0} (is_up is_sound : S → Type 0)
     (holds : S → List Record → Type 0) (kept_of : S → Kept) → Block → Kept → Mend
-    → List Assignment → Kept → List Reply → List Mending → S → S → Talk → Talk → Report
+    → List Assignment → Kept → List Reply → List Mending → S → S → Talk → Talk → ℕ → Report
     → Result (Unit {0}) Failure → Type 0
 HasMendedSo is_up is_sound holds kept_of block table wanted hanging before replies ms was keep x y
-    report ended =
+    frames report ended =
     (at : Talk)
     × AreMended table (meant_from wanted.named.items 0 replies) [] ms x at
     × Follows is_up is_sound holds kept_of block table hanging before replies ms was keep at y
-    report ended
+    frames report ended
 
 -- If what was heard lets none be mended, nothing is put, and the records are as they were.
 abbrev pub MendsBeside : {S : Type 0} (is_up is_sound : S → Type 0)
     (holds : S → List Record → Type 0) (kept_of : S → Kept) → Block → Kept → List Block → Mend
-    → List Assignment → Kept → List Reply → List Mending → S → S → Talk → Talk → Report
+    → List Assignment → Kept → List Reply → List Mending → S → S → Talk → Talk → ℕ → Report
     → Result (Unit {0}) Failure → Type 0
 MendsBeside is_up is_sound holds kept_of block table others wanted hanging before replies ms was
-    keep x y report ended =
+    keep x y frames report ended =
     ((failure : Failure)
     × (refused_from table others wanted hanging 0 replies ≡ Some failure)
     × (ended ≡ Err failure)
@@ -144,31 +147,31 @@ MendsBeside is_up is_sound holds kept_of block table others wanted hanging befor
     × (y ≡ x))
     ⊎ ((refused_from table others wanted hanging 0 replies ≡ None)
     × HasMendedSo is_up is_sound holds kept_of block table wanted hanging before replies ms was keep
-    x y report ended)
+    x y frames report ended)
 
 -- WHAT A MEND COMES TO once each short address was asked: the gear of the table that are away are
 -- looked for at those that are meant. Then each of these is mended, and only then surveys follow.
 abbrev pub MendsTo : {S : Type 0} (is_up is_sound : S → Type 0)
     (holds : S → List Record → Type 0) (kept_of : S → Kept) → Block → Kept → Kept → List Block
-    → Mend → List Reply → List Mending → S → S → Talk → Talk → Report → Result (Unit {0}) Failure
-    → Type 0
+    → Mend → List Reply → List Mending → S → S → Talk → Talk → ℕ → Report
+    → Result (Unit {0}) Failure → Type 0
 MendsTo is_up is_sound holds kept_of block table records others wanted replies ms was keep x y
-    report ended =
+    frames report ended =
     (hanging : List Assignment)
     × (at : Talk)
     × AreLookedFor table records others wanted (meant_from wanted.named.items 0 replies) 0 replies
     [] hanging x at
     × MendsBeside is_up is_sound holds kept_of block table others wanted hanging records replies ms
-    was keep at y report ended
+    was keep at y frames report ended
 
 -- each short address is asked first, but those in the blocks of others
 abbrev pub MendsFrom : {S : Type 0} (is_up is_sound : S → Type 0)
     (holds : S → List Record → Type 0) (kept_of : S → Kept) → Block → Kept → Kept → List Block
-    → Mend → List Mending → S → S → Talk → Talk → Report → Result (Unit {0}) Failure → Type 0
-MendsFrom is_up is_sound holds kept_of block table records others wanted ms was keep x y report
-    ended =
+    → Mend → List Mending → S → S → Talk → Talk → ℕ → Report → Result (Unit {0}) Failure → Type 0
+MendsFrom is_up is_sound holds kept_of block table records others wanted ms was keep x y frames
+    report ended =
     (replies : List Reply)
     × (at : Talk)
     × AreCounted (without_records table.block) others 0 replies x at
     × MendsTo is_up is_sound holds kept_of block table records others wanted replies ms was keep at
-    y report ended
+    y frames report ended

@@ -20,7 +20,7 @@ use Rattle.dali_commission_said.specs.declared.said.Said.{Said}
 use Rattle.dali_commission_said.specs.declared.said.Said.TheVariants as said
 use Rattle.dali_commission_tasks.specs.declared.tasks.Mend.{Mend}
 use Rattle.dali_commission_tasks.specs.declared.tasks.Setup.{Setup}
-use Rattle.dali_commission_said.specs.Said.{AreTold}
+use Rattle.dali_commission_said.specs.Said.{AreTold, IsPlaceOf}
 use Rattle.dali_commission_stores.specs.Calls.{Look}
 use Rattle.dali_commission_stores.specs.declared.records.Seen.{Seen}
 use Rattle.dali_commission_stores.specs.Lent.{IsLent, IsOpened, IsUnread, AreRead}
@@ -29,15 +29,24 @@ use Rattle.dali_commission_mended.specs.Runs.{HasBegun, HasNotBegun, HasNotBegun
 use Rattle.dali_commission_mended.specs.Mends.{MendsFrom}
 use Rattle.dali_commission_mended.specs.Cut.{EndsMend}
 
--- WHAT CAME OF EACH SHORT ADDRESS that was mended is said
+-- WHAT CAME OF EACH SHORT ADDRESS that was mended is said, and which gear have lost it, with the
+-- one that a table has for each
 abbrev pub MendTold : (Said → Type 0) → ℕ → Option Outcome → Type 0
 MendTold told a None = Unit {0}
 MendTold told a (Some outcome) = told (said.Mended a outcome)
 
-abbrev pub AreMendsTold : (Said → Type 0) → List Mending → Type 0
-AreMendsTold told [] = Unit {0}
-AreMendsTold told (m ∷ more) =
-    MendTold told m.short (outcome_at m.course.stage) × AreMendsTold told more
+abbrev pub AreLossesTold : (Said → Type 0) → Kept → ℕ → List ℕ → Type 0
+AreLossesTold told table a [] = Unit {0}
+AreLossesTold told table a (r ∷ more) =
+    ((at : Option ℕ) × IsPlaceOf r table.enrolled at × told (said.HasLost a r at))
+    × AreLossesTold told table a more
+
+abbrev pub AreMendsTold : (Said → Type 0) → Kept → List Mending → Type 0
+AreMendsTold told table [] = Unit {0}
+AreMendsTold told table (m ∷ more) =
+    MendTold told m.short (outcome_at m.course.stage)
+    × AreLossesTold told table m.short m.erased
+    × AreMendsTold told table more
 
 -- A RUN THAT ENDED SO has begun as was asked for, and said and reported what it came to
 abbrev pub HasRun : {S R W : Type 0} (is_up is_sound : S → Type 0)
@@ -79,24 +88,29 @@ pub record HasMended {S : Type 0} (is_up is_sound : S → Type 0)
   pub mid : S
   pub came : Report
   pub mends : MendsFrom is_up is_sound holds kept_of block table before others wanted ms opened mid
-      x y came (Ok tt)
+      x y frames came (Ok tt)
   pub after : Kept
   pub of : Block
   pub reads_last : IsRead is_up is_sound holds of mid keep after
-  pub said : AreMendsTold told ms
+  pub said : AreMendsTold told after ms
+  pub tells : AreTold told came.said.items
   pub reports : report ≡ record came { frames = frames }
 
--- A MEND THAT FAILED has read its own and put a beginning of that, or nothing. It has reported what
--- it came to, or only counts its frames if it cannot read its own any more.
-abbrev pub IsReported : Failure → Report → Report → Result (Unit {0}) Failure → ℕ → Report → Type 0
-IsReported failure old came ended frames report =
-    ((ended ≡ Err failure) × (report ≡ record came { frames = frames }))
+-- A MEND THAT FAILED has read its own and put a beginning of that, or nothing. It has said and
+-- reported what it came to, or only counts its frames if it cannot read its own any more.
+abbrev pub IsReported : (Said → Type 0) → List Mending → Failure → Report → Report
+    → Result (Unit {0}) Failure → ℕ → Report → Type 0
+IsReported told ms failure old came ended frames report =
+    ((ended ≡ Err failure)
+    × (report ≡ record came { frames = frames })
+    × AreTold told came.said.items
+    × ((after : Kept) × AreMendsTold told after ms))
     ⊎ (IsUnread failure × (report ≡ record old { frames = frames }))
 
 pub record HasNotMended {S : Type 0} (is_up is_sound : S → Type 0)
-    (holds : S → List Record → Type 0) (kept_of : S → Kept) (block : Block) (others : List Block)
-    (wanted : Mend) (tables : List Kept) (was : S) (x y : Talk) (frames : ℕ) (old report : Report)
-    (failure : Failure) : Type 0 where
+    (holds : S → List Record → Type 0) (kept_of : S → Kept) (block : Block) (told : Said → Type 0)
+    (others : List Block) (wanted : Mend) (tables : List Kept) (was : S) (x y : Talk) (frames : ℕ)
+    (old report : Report) (failure : Failure) : Type 0 where
   pub before : Kept
   pub opened : S
   pub reads : IsRead is_up is_sound holds block was opened before
@@ -108,8 +122,8 @@ pub record HasNotMended {S : Type 0} (is_up is_sound : S → Type 0)
   pub came : Report
   pub ended : Result (Unit {0}) Failure
   pub ends : EndsMend is_up is_sound holds kept_of block table before others wanted ms opened mid
-      x y came ended
-  pub reports : IsReported failure old came ended frames report
+      x y frames came ended
+  pub reports : IsReported told ms failure old came ended frames report
 
 abbrev pub MendsOver : {S R W : Type 0} (is_up is_sound : S → Type 0)
     (holds : S → List Record → Type 0) (kept_of : S → Kept) → Block → (R → Option (List ℕ))
@@ -123,7 +137,7 @@ MendsOver is_up is_sound holds kept_of block remaining contents told others want
 MendsOver is_up is_sound holds kept_of block remaining contents told others wanted tables was keep
     x y (Err failure) =
     (y ≡ x)
-    ⊎ HasNotMended is_up is_sound holds kept_of block others wanted tables was
+    ⊎ HasNotMended is_up is_sound holds kept_of block told others wanted tables was
     (talk_of remaining contents x.driver) (talk_of remaining contents y.driver) (lines_of y.driver)
     x.report y.report failure
 

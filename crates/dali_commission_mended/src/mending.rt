@@ -3,7 +3,7 @@
 ghost use Rattle.std.specs.Prelude.{◌≡◌, ◌≤◌, ℕ, [], None, Err, IfOk, IfErr, OnOk, length};
 ghost use Rattle.dali_commission_asked.specs.Ending.{pass_at_last};
 ghost use Rattle.dali_mending.specs.Mending.{put_next, mending_begun};
-ghost use Rattle.dali_commissioning.specs.Drivers.{talk_of};
+ghost use Rattle.dali_commissioning.specs.Drivers.{talk_of, lines_of};
 ghost use Rattle.dali_commissioning.specs.Places.{places};
 ghost use Rattle.dali_commission_mended.specs.Mends.{HasPut, IsMended, AreMended, HasSurveyed, MendedSo, Follows};
 ghost use Rattle.dali_commission_mended.specs.Mends.{HasMendedSo, MendsBeside, MendsTo, MendsFrom, mended_as};
@@ -13,7 +13,8 @@ ghost use Rattle.dali_commission_mended.specs.Cut.{IsPutCut, AreMendsCut, AreSur
 ghost use Rattle.dali_commission_mended.specs.Cut.{MendedCut, BesideCut, ToCut, FromCut, EndsMend};
 ghost use Rattle.dali_commission_asked.specs.Came.{IsCutAs};
 ghost use Rattle.dali_commission_asked.specs.Sharing.{with_left, why_open, is_any_left_shared, meant_from};
-ghost use Rattle.dali_commission_mended.specs.Tellings.{AreMendsTold, MendsOver, IsMendBeside, IsMendOf};
+ghost use Rattle.dali_commission_mended.specs.Tellings.{AreLossesTold, AreMendsTold, MendsOver, IsMendBeside, IsMendOf};
+ghost use Rattle.dali_commission_said.specs.Reports.{RunSaid};
 
 use crate::hanging::{Hanging, look_for_all};
 use crate::running::left_of;
@@ -32,7 +33,7 @@ use dali_commissioning::{
     CommissionFault, DriverLink, PassEnd, Reply, Watch, commission, places, take_census,
 };
 use dali_controller::Shorts;
-use dali_frame::Short;
+use dali_frame::{Random24, Short};
 use dali_mending::Mending;
 use dali_replacement::{gathered_whole, refill};
 use dali_reserve::Keep;
@@ -152,6 +153,7 @@ fn came_of(
     ensures ended { result.ended ≡ mended_as pass.now last.now work.now.replies.now work.now.mended.now }
     ensures report { result.report ≡ mended_reported (pass_at_last pass.now last.now) before.now after.now
         (with_left last.now.left.heard work.now.mended.now) result.report.said.items }
+    ensures said { RunSaid (pass_at_last pass.now last.now) before.now after.now aim frames result.report.said.items }
 {
     let (pass, heard) = (last.pass(pass), last.left.heard);
     Came {
@@ -216,7 +218,7 @@ fn end_so<K: Keep, R: Read, W: Write>(
     pass: &PassEnd,
 ) -> Result<Came, Failure>
     ensures ended { IfOk result (λ came. MendedSo pass.now site.now.before.now (K.kept store.new)
-        work.now.replies.now work.now.mended.now came.report came.ended
+        work.now.replies.now work.now.mended.now (lines_of driver.new) came.report came.ended
         (talk_of R.remaining W.contents driver.old) (talk_of R.remaining W.contents driver.new)) }
     ensures failed { IfErr result (λ failure. IsEndCut failure
         (talk_of R.remaining W.contents driver.old) (talk_of R.remaining W.contents driver.new)) }
@@ -242,7 +244,7 @@ fn follow<S: Voice, K: Keep, R: Read, W: Write>(
         site.now.table.now
         work.now.hanging.now site.now.before.now work.now.replies.now work.now.mended.now store.old store.new
         (talk_of R.remaining W.contents driver.old)
-        (talk_of R.remaining W.contents driver.new) came.report came.ended) }
+        (talk_of R.remaining W.contents driver.new) (lines_of driver.new) came.report came.ended) }
     ensures failed { IfErr result (λ failure. FollowsCut K.is_up K.is_sound K.holds K.kept (K.block store.old)
         site.now.table.now work.now.hanging.now work.now.replies.now work.now.mended.now failure store.new
         (talk_of R.remaining W.contents driver.old) (talk_of R.remaining W.contents driver.new)) }
@@ -295,7 +297,7 @@ fn mend_meant<S: Voice, K: Keep, R: Read, W: Write>(
     ensures mended { IfOk result (λ came. HasMendedSo K.is_up K.is_sound K.holds K.kept (K.block store.old)
         site.now.table.now site.now.wanted.now hanging.now site.now.before.now replies.now mended.new.items store.old
         store.new (talk_of R.remaining W.contents driver.old) (talk_of R.remaining W.contents driver.new)
-        came.report came.ended) }
+        (lines_of driver.new) came.report came.ended) }
     ensures failed { IfErr result (λ failure. MendedCut K.is_up K.is_sound K.holds K.kept (K.block store.old)
         site.now.table.now site.now.wanted.now hanging.now replies.now failure store.new
         (talk_of R.remaining W.contents driver.old) (talk_of R.remaining W.contents driver.new)) }
@@ -325,7 +327,7 @@ fn mends_beside<S: Voice, K: Keep, R: Read, W: Write>(
     ensures mends { IfOk result (λ came. MendsBeside K.is_up K.is_sound K.holds K.kept (K.block store.old)
         site.now.table.now site.now.others.now site.now.wanted.now hanging.now site.now.before.now replies.now
         mended.new.items store.old store.new (talk_of R.remaining W.contents driver.old)
-        (talk_of R.remaining W.contents driver.new) came.report came.ended) }
+        (talk_of R.remaining W.contents driver.new) (lines_of driver.new) came.report came.ended) }
     ensures failed { IfErr result (λ failure. BesideCut K.is_up K.is_sound K.holds K.kept (K.block store.old)
         site.now.table.now site.now.others.now site.now.wanted.now hanging.now replies.now failure store.new
         (talk_of R.remaining W.contents driver.old) (talk_of R.remaining W.contents driver.new)) }
@@ -351,7 +353,7 @@ fn mends_by<S: Voice, K: Keep, R: Read, W: Write>(
         site.now.table.now
         site.now.before.now site.now.others.now site.now.wanted.now replies.now mended.new.items store.old store.new
         (talk_of R.remaining W.contents driver.old) (talk_of R.remaining W.contents driver.new)
-        came.report came.ended) }
+        (lines_of driver.new) came.report came.ended) }
     ensures failed { IfErr result (λ failure. ToCut K.is_up K.is_sound K.holds K.kept (K.block store.old)
         site.now.table.now site.now.before.now site.now.others.now site.now.wanted.now replies.now failure store.new
         (talk_of R.remaining W.contents driver.old) (talk_of R.remaining W.contents driver.new)) }
@@ -373,7 +375,7 @@ fn came_to<S: Voice, K: Keep, R: Read, W: Write>(
         site.now.table.now
         site.now.before.now site.now.others.now site.now.wanted.now mended.new.items store.old store.new
         (talk_of R.remaining W.contents driver.old) (talk_of R.remaining W.contents driver.new)
-        came.report came.ended) }
+        (lines_of driver.new) came.report came.ended) }
     ensures failed { IfErr result (λ failure. FromCut K.is_up K.is_sound K.holds K.kept (K.block store.old)
         site.now.table.now site.now.before.now site.now.others.now site.now.wanted.now failure store.new
         (talk_of R.remaining W.contents driver.old) (talk_of R.remaining W.contents driver.new)) }
@@ -403,7 +405,7 @@ fn came_to_or_not<S: Voice, K: Keep, R: Read, W: Write>(
     ensures { EndsMend K.is_up K.is_sound K.holds K.kept (K.block store.old) site.now.table.now
         site.now.before.now site.now.others.now site.now.wanted.now mended.new.items store.old store.new
         (talk_of R.remaining W.contents driver.old) (talk_of R.remaining W.contents driver.new)
-        result.report result.ended }
+        (lines_of driver.new) result.report result.ended }
 {
     match came_to(store, driver, progress, site, mended) {
         Ok(came) => came,
@@ -411,9 +413,23 @@ fn came_to_or_not<S: Voice, K: Keep, R: Read, W: Write>(
     }
 }
 
+/// Says which gear have lost a short address, and which one a table has for each.
+fn say_lost<S: Voice>(system: &S, at: u8, erased: &[Random24], table: &Kept)
+    ensures { AreLossesTold (S.told system.now) table.now at erased.now }
+{
+    let [random, more @ ..] = erased else {
+        return;
+    };
+    say(
+        system,
+        &Said::HasLost(at, *random, table.enrolled_for(*random)),
+    );
+    say_lost(system, at, more, table);
+}
+
 /// Says what came of each short address, and who has lost it.
 fn say_mended<S: Voice>(system: &S, mended: &[Mending], table: &Kept)
-    ensures { AreMendsTold (S.told system.now) mended.now }
+    ensures { AreMendsTold (S.told system.now) table.now mended.now }
 {
     let [mending, more @ ..] = mended else {
         return;
@@ -422,10 +438,7 @@ fn say_mended<S: Voice>(system: &S, mended: &[Mending], table: &Kept)
     if let Some(outcome) = mending.outcome() {
         say(system, &Said::Mended(at, outcome));
     }
-    for random in mending.erased() {
-        let now = table.enrolled_for(*random);
-        say(system, &Said::HasLost(at, *random, now));
-    }
+    say_lost(system, at, mending.erased(), table);
     say_mended(system, more, table);
 }
 

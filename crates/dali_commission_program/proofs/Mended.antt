@@ -137,39 +137,39 @@ mended table (a ∷ more) before after x y (m, at, ((told, put), none), rest) =
     joined (frames _ _ _ told m x at put) (mended table more (before ++ m ∷ []) after at y rest)
 
 follows_more : {S : Type 0} (is_up is_sound : S → Type 0) (holds : S → List Record → Type 0) (kept_of : S → Kept) (block : Block) (table : Kept)
-    (hanging : List Assignment) (before : Kept) (replies : List Reply) (ms : List _) (was keep : S) (x y : Talk) (report : Report)
-    → Follows is_up is_sound holds kept_of block table hanging before replies ms was keep x y report (Ok (tt {0})) → IsMore x y
-follows_more is_up is_sound holds kept_of block table hanging before replies ms was keep x y report (inl (bare, is, reports, stores, same)) =
+    (hanging : List Assignment) (before : Kept) (replies : List Reply) (ms : List _) (was keep : S) (x y : Talk) (n : ℕ) (report : Report)
+    → Follows is_up is_sound holds kept_of block table hanging before replies ms was keep x y n report (Ok (tt {0})) → IsMore x y
+follows_more is_up is_sound holds kept_of block table hanging before replies ms was keep x y n report (inl (bare, is, reports, stores, same)) =
     absurd (ok_err _ is)
-follows_more is_up is_sound holds kept_of block table hanging before replies ms was keep x y report
-    (inr (none, (pass, mid, at, surveyed, (last, asked, is, reports)))) =
+follows_more is_up is_sound holds kept_of block table hanging before replies ms was keep x y n report
+    (inr (none, (pass, mid, at, surveyed, (last, asked, is, reports, said)))) =
     then_more (runs_put is_up is_sound holds block Survey surveyed.filled mid x at surveyed.runs surveyed.ran)
     (at_last_more pass (kept_of keep).enrolled last at y (ended_there _ last.is_there (open_well _ _ _ (sym is))) asked)
 
 beside_more : {S : Type 0} (is_up is_sound : S → Type 0) (holds : S → List Record → Type 0) (kept_of : S → Kept) (block : Block) (table : Kept)
-    (others : List Block) (wanted : Mend) (hanging : List Assignment) (before : Kept) (replies : List Reply) (ms : List _) (was keep : S) (x y : Talk)
+    (others : List Block) (wanted : Mend) (hanging : List Assignment) (before : Kept) (replies : List Reply) (ms : List _) (was keep : S) (x y : Talk) (n : ℕ)
     (report : Report)
-    → MendsBeside is_up is_sound holds kept_of block table others wanted hanging before replies ms was keep x y report (Ok (tt {0})) → IsMore x y
-beside_more is_up is_sound holds kept_of block table others wanted hanging before replies ms was keep x y report
+    → MendsBeside is_up is_sound holds kept_of block table others wanted hanging before replies ms was keep x y n report (Ok (tt {0})) → IsMore x y
+beside_more is_up is_sound holds kept_of block table others wanted hanging before replies ms was keep x y n report
     (inl (failure, refused, is, reports, stores, same)) = absurd (ok_err _ is)
-beside_more is_up is_sound holds kept_of block table others wanted hanging before replies ms was keep x y report (inr (none, (at, are, follows))) =
+beside_more is_up is_sound holds kept_of block table others wanted hanging before replies ms was keep x y n report (inr (none, (at, are, follows))) =
     then_more (mended table (meant_from wanted.named.items 0 replies) [] ms x at are)
-    (follows_more is_up is_sound holds kept_of block table hanging before replies ms was keep at y report follows)
+    (follows_more is_up is_sound holds kept_of block table hanging before replies ms was keep at y n report follows)
 
 mends_more : {S : Type 0} (is_up is_sound : S → Type 0) (holds : S → List Record → Type 0) (kept_of : S → Kept) (block : Block)
-    (table records : Kept) (others : List Block) (wanted : Mend) (ms : List _) (was keep : S) (x y : Talk) (report : Report)
-    → MendsFrom is_up is_sound holds kept_of block table records others wanted ms was keep x y report (Ok (tt {0})) → IsMore x y
-mends_more is_up is_sound holds kept_of block table records others wanted ms was keep x y report (replies, at, are, (hanging, after, looked, beside)) =
+    (table records : Kept) (others : List Block) (wanted : Mend) (ms : List _) (was keep : S) (x y : Talk) (n : ℕ) (report : Report)
+    → MendsFrom is_up is_sound holds kept_of block table records others wanted ms was keep x y n report (Ok (tt {0})) → IsMore x y
+mends_more is_up is_sound holds kept_of block table records others wanted ms was keep x y n report (replies, at, are, (hanging, after, looked, beside)) =
     then_more
     (joined (counted (without_records table.block) others 0 replies x at are)
     (all_looked_for table records others wanted (meant_from wanted.named.items 0 replies) 0 replies [] hanging at after looked))
-    (beside_more is_up is_sound holds kept_of block table others wanted hanging records replies ms was keep after y report beside)
+    (beside_more is_up is_sound holds kept_of block table others wanted hanging records replies ms was keep after y n report beside)
 
 mended_so : {S : Type 0} (is_up is_sound : S → Type 0) (holds : S → List Record → Type 0) (kept_of : S → Kept) (block : Block)
     (told : Said → Type 0) (others : List Block) (wanted : Mend) (tables : List Kept) (was keep : S) (x y : Talk) (frames : ℕ) (report : Report)
     → HasMended is_up is_sound holds kept_of block told others wanted tables was keep x y frames report → IsMore x y
 mended_so is_up is_sound holds kept_of block told others wanted tables was keep x y frames report it =
-    mends_more is_up is_sound holds kept_of block it.table it.before others wanted it.ms it.opened it.mid x y it.came it.mends
+    mends_more is_up is_sound holds kept_of block it.table it.before others wanted it.ms it.opened it.mid x y frames it.came it.mends
 
 pub mend_more : {F K R W : Type 0} (is_up is_sound : K → Type 0) (holds : K → List Record → Type 0) (kept_of : K → Kept) (block_of : K → Block)
     (saw : F → Look → Type 0) (opens : F → Seen → K → Type 0) (remaining : R → Option (List ℕ)) (contents : W → Option (List ℕ))

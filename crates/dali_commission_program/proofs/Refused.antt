@@ -1,4 +1,4 @@
-use Rattle.std.proofs.Common.{◌≡◌, arith, ℕ, List, ap, inl, inr}
+use Rattle.std.proofs.Common.{◌≡◌, arith, ℕ, Bool, List, ap, inl, inr}
 use Rattle.dali_script.specs.Records.{Kept}
 use Rattle.dali_commissioning.specs.Drivers.{Talk}
 use Rattle.dali_commissioning.specs.declared.driver.DriverFault.TheVariants as driver
@@ -8,6 +8,7 @@ use Rattle.dali_replacement.specs.declared.come.Come.{Come}
 use Rattle.dali_replacement.specs.declared.refusal.ReplaceFault.TheVariants.{Refused, Commission}
 use Rattle.dali_replacement.specs.declared.refusal.ReplaceRefusal.{ReplaceRefusal}
 use Rattle.dali_commission_said.specs.declared.failure.Failure.TheVariants.{NotReplaced}
+use Rattle.dali_commission_said.specs.declared.report.Report.{Report}
 use Rattle.dali_commission_said.specs.Failures.{failure_of, status_of}
 use Rattle.dali_commission_replaced.specs.Cut.{HasNotAskedOthers}
 use Rattle.dali_commission_program.specs.Nothing.{RefusedPutsSomething}
@@ -29,13 +30,15 @@ not_cut fault.QuestionLost line a why is = absurd (omega (arith, ap status_of is
 not_cut fault.StepsSpent line a why is = absurd (omega (arith, ap status_of is))
 not_cut fault.RunsSpent line a why is = absurd (omega (arith, ap status_of is))
 
-refused_more : (a : ℕ) (come : Come) (table : Kept) (gone : List ℕ) (why : ReplaceRefusal) (x y : Talk)
-    → HasNotAskedOthers a come table gone (NotReplaced a why) x y → IsMore x y
-refused_more a come table gone why x y (inl (Commission reason, line, is, cut)) = absurd (not_cut reason line a why is)
-refused_more a come table gone why x y (inl (Refused w, line, is, (heard, answered, may, same))) = answered_more a heard x y answered
-refused_more a come table gone why x y (inr (reply, at, answered, may, inl (line, (reason, cut, is)))) = absurd (not_cut reason line a why is)
-refused_more a come table gone why x y (inr (reply, at, answered, may, inr (replies, all, are, not, so))) =
+refused_more : (heard : Bool) (a : ℕ) (come : Come) (table : Kept) (gone : List ℕ) (why : ReplaceRefusal) (before after : Report) (x y : Talk)
+    → HasNotAskedOthers heard a come table gone (NotReplaced a why) before after x y → IsMore x y
+refused_more heard a come table gone why before after x y (inl (Commission reason, line, is, cut, none)) = absurd (not_cut reason line a why is)
+refused_more heard a come table gone why before after x y (inl (Refused w, line, is, (reply, answered, may, same), none)) = answered_more a reply x y answered
+refused_more heard a come table gone why before after x y (inr (reply, at, answered, may, inl (line, (reason, cut, is), none))) =
+    absurd (not_cut reason line a why is)
+refused_more heard a come table gone why before after x y (inr (reply, at, answered, may, inr (replies, all, are, not, so))) =
     more_then (answered_more a reply x at answered) (all_heard table 0 replies at y are)
 
 pub refused_puts : RefusedPutsSomething
-refused_puts a come table gone why x y not nothing = more_is_not_nothing x y (refused_more a come table gone why x y not) nothing
+refused_puts heard a come table gone why before after x y not nothing =
+    more_is_not_nothing x y (refused_more heard a come table gone why before after x y not) nothing

@@ -6,7 +6,7 @@ use Rattle.dali_commissioning.specs.declared.census.Reply.TheVariants as heard
 use Rattle.dali_commissioning.specs.declared.driver.DriverLink.{DriverLink}
 use Rattle.dali_replacement.specs.declared.come.Come.{Come, TheVariants.Nowhere, TheVariants.Reserved, TheVariants.Given}
 use Rattle.dali_replacement.specs.{Standing.{IsHeard, AreHeard}, Swapping.names_of}
-use Rattle.dali_commission_said.specs.declared.{failure.Failure.Failure, said.Said.Said}
+use Rattle.dali_commission_said.specs.declared.{failure.Failure.Failure, report.Session.Session, said.Said.Said}
 use Rattle.dali_commission_tasks.specs.declared.tasks.Replacement.{Replacement}
 use Rattle.dali_commission_stores.specs.{Calls.{Call, Look}, declared.records.Seen.Seen}
 use Rattle.dali_commission_replaced.specs.Asking.{HasAskedOthers, IsConfirmed, HasGivenSo, GivesFirst, HasReplacedSo, HasReplaced}
@@ -72,25 +72,25 @@ nothing_looked come x y nothing (inr more) = absurd (more_is_not_nothing x y mor
 pub replaced : {F K R W : Type 0} (is_up is_sound : K → Type 0) (holds : K → List Record → Type 0) (kept_of : K → Kept) (block_of : K → Block)
     (made : F → F → Call → Type 0) (saw : F → Look → Type 0) (opens : F → Seen → K → Type 0) (remaining : R → Option (List ℕ))
     (contents : W → Option (List ℕ)) (told : Said → Type 0) (wanted : Replacement) (records : List (String Global)) (random : ℕ) (was now : F)
-    (x y : DriverLink R W)
+    (x y : Session R W)
     → HasReplaced is_up is_sound holds kept_of block_of made saw opens remaining contents told wanted records random was now x y
-    → IsNothingPut (talk_of remaining contents x) (talk_of remaining contents y)
-    → HasLookedIn is_up is_sound holds kept_of block_of made saw opens remaining contents told wanted random x y
+    → IsNothingPut (talk_of remaining contents x.driver) (talk_of remaining contents y.driver)
+    → HasLookedIn is_up is_sound holds kept_of block_of made saw opens remaining contents told wanted random x.driver y.driver
 replaced is_up is_sound holds kept_of block_of made saw opens remaining contents told wanted records random was now x y
-    (names, at, Some swap, lies, apart, settled, (same, is)) nothing =
+    (names, at, Some swap, lies, apart, settled, (same, is, notes)) nothing =
     absurd (more_is_not_nothing _ _ (confirmed_more saw told wanted.short wanted.missing.items at (names_of swap) random
-    (talk_of remaining contents x) (talk_of remaining contents y) is) nothing)
+    (talk_of remaining contents x.driver) (talk_of remaining contents y.driver) is) nothing)
 replaced is_up is_sound holds kept_of block_of made saw opens remaining contents told wanted records random was now x y
     (names, at, None, lies, apart, settled, anew) nothing =
     let it : HasReplacedSo is_up is_sound holds kept_of block_of made saw opens remaining contents told wanted names anew.all anew.news random at anew.at
-    x y = anew.replaced in (
+    x.driver y.driver = anew.replaced in (
       names,
       anew.all,
       anew.news,
       at,
       anew.at,
       it,
-      nothing_looked it.plan.come (talk_of remaining contents x) (talk_of remaining contents y) nothing
+      nothing_looked it.plan.come (talk_of remaining contents x.driver) (talk_of remaining contents y.driver) nothing
           (looked_or_more it.plan.come _ (talk_of remaining contents it.before) (talk_of remaining contents it.after) _
           (others_more wanted.short it.plan.come it.plan.table wanted.missing.items _ _ it.others)
           (given_first is_up is_sound holds kept_of block_of made saw opens remaining contents told wanted.short it.plan.come it.plan.table it.name
@@ -101,16 +101,17 @@ replaced is_up is_sound holds kept_of block_of made saw opens remaining contents
 -- a luminaire was accepted
 pub accepted : {F K R W : Type 0} (kept_of : K → Kept) (block_of : K → Block) (made : F → F → Call → Type 0) (saw : F → Look → Type 0)
     (opens : F → Seen → K → Type 0) (remaining : R → Option (List ℕ)) (contents : W → Option (List ℕ)) (told : Said → Type 0) (wanted : Replacement)
-    (records : List (String Global)) (random : ℕ) (was now : F) (x y : DriverLink R W)
+    (records : List (String Global)) (random : ℕ) (was now : F) (x y : Session R W)
     → HasAccepted kept_of block_of made saw opens remaining contents told wanted records random was now x y
-    → IsMore (talk_of remaining contents x) (talk_of remaining contents y)
+    → IsMore (talk_of remaining contents x.driver) (talk_of remaining contents y.driver)
 accepted kept_of block_of made saw opens remaining contents told wanted records random was now x y
-    (names, at, Some swap, lies, apart, settled, (same, is)) =
-    confirmed_more saw told wanted.short wanted.missing.items at (names_of swap) random (talk_of remaining contents x) (talk_of remaining contents y) is
+    (names, at, Some swap, lies, apart, settled, (same, is, notes)) =
+    confirmed_more saw told wanted.short wanted.missing.items at (names_of swap) random (talk_of remaining contents x.driver)
+    (talk_of remaining contents y.driver) is
 accepted kept_of block_of made saw opens remaining contents told wanted records random was now x y
     (names, at, None, lies, apart, settled, anew) =
-    let it : HasAcceptedSo kept_of block_of made saw opens told wanted names anew.all anew.news random at anew.at (talk_of remaining contents x)
-    (talk_of remaining contents y) = anew.accepted in
-    more_then (more_then (answered_more wanted.short (heard.Random it.given) (talk_of remaining contents x) it.there.0 it.there.1)
+    let it : HasAcceptedSo kept_of block_of made saw opens told wanted names anew.all anew.news random at anew.at (talk_of remaining contents x.driver)
+    (talk_of remaining contents y.driver) = anew.accepted in
+    more_then (more_then (answered_more wanted.short (heard.Random it.given) (talk_of remaining contents x.driver) it.there.0 it.there.1)
     (grown (others_more wanted.short (Given it.given) it.table wanted.missing.items it.there.0 it.before it.there.2)))
-    (grown (answered_more wanted.short (heard.Random random) it.before (talk_of remaining contents y) it.last))
+    (grown (answered_more wanted.short (heard.Random random) it.before (talk_of remaining contents y.driver) it.last))

@@ -41,42 +41,42 @@ HasTabled saw wrote stores name form =
 -- blocks of others
 abbrev pub HasDone : {F K R W : Type 0} (is_up is_sound : K → Type 0)
     (holds : K → List Record → Type 0) (kept_of : K → Kept) (block_of : K → Block)
-    → (F → F → Call → Type 0) → (F → Look → Type 0) → (F → Seen → K → Type 0)
+    (made began : F → F → Call → Type 0) → (F → Look → Type 0) → (F → Seen → K → Type 0)
     → (R → Option (List ℕ)) → (W → Option (List ℕ)) → (Said → Type 0) → (List ℕ → Type 0)
     → List (String Global) → List Block → F → F → Session R W → Session R W
     → Result (Unit {0}) Failure → Task → Type 0
-HasDone is_up is_sound holds kept_of block_of made saw opens remaining contents told wrote records
-    others was now x y result (task.Run setup) =
+HasDone is_up is_sound holds kept_of block_of made began saw opens remaining contents told wrote
+    records others was now x y result (task.Run setup) =
     IsLent (IsOpened block_of saw opens was (only records) setup.block)
     (λ from to p q done. HasRunOver is_up is_sound holds kept_of (block_of from) remaining contents
     told others setup from to p q done) x y result
-HasDone is_up is_sound holds kept_of block_of made saw opens remaining contents told wrote records
-    others was now x y result task.Check =
+HasDone is_up is_sound holds kept_of block_of made began saw opens remaining contents told wrote
+    records others was now x y result task.Check =
     IsCheckOf saw was told others (has_heard y.driver) (lines_of y.driver)
     (talk_of remaining contents x.driver) (talk_of remaining contents y.driver) x.report y.report
     result (option_map (λ it. string_bytes it) (slice_get records 0))
-HasDone is_up is_sound holds kept_of block_of made saw opens remaining contents told wrote records
-    others was now x y result (task.Identify a) =
+HasDone is_up is_sound holds kept_of block_of made began saw opens remaining contents told wrote
+    records others was now x y result (task.Identify a) =
     IsShowing a result (lines_of y.driver) (talk_of remaining contents x.driver)
     (talk_of remaining contents y.driver)
     × (y.report ≡ record no_report { frames = lines_of y.driver })
-HasDone is_up is_sound holds kept_of block_of made saw opens remaining contents told wrote records
-    others was now x y result (task.Table form) =
+HasDone is_up is_sound holds kept_of block_of made began saw opens remaining contents told wrote
+    records others was now x y result (task.Table form) =
     (y ≡ x) × OnOk result (HasTabled saw wrote was (only records) form)
-HasDone is_up is_sound holds kept_of block_of made saw opens remaining contents told wrote records
-    others was now x y result (task.Replace wanted) =
-    IsReplacement is_up is_sound holds kept_of block_of made saw opens remaining contents told
-    wanted records was now x.driver y.driver result
-HasDone is_up is_sound holds kept_of block_of made saw opens remaining contents told wrote records
-    others was now x y result (task.Accept wanted) =
-    IsAcceptance kept_of block_of made saw opens remaining contents told wanted records was now
-    x.driver y.driver result
-HasDone is_up is_sound holds kept_of block_of made saw opens remaining contents told wrote records
-    others was now x y result (task.Mend wanted) =
+HasDone is_up is_sound holds kept_of block_of made began saw opens remaining contents told wrote
+    records others was now x y result (task.Replace wanted) =
+    IsReplacement is_up is_sound holds kept_of block_of made began saw opens remaining contents told
+    wanted records was now x y result
+HasDone is_up is_sound holds kept_of block_of made began saw opens remaining contents told wrote
+    records others was now x y result (task.Accept wanted) =
+    IsAcceptance kept_of block_of made began saw opens remaining contents told wanted records was
+    now x y result
+HasDone is_up is_sound holds kept_of block_of made began saw opens remaining contents told wrote
+    records others was now x y result (task.Mend wanted) =
     IsMendOf is_up is_sound holds kept_of block_of saw opens remaining contents told others wanted
     was x y result records
-HasDone is_up is_sound holds kept_of block_of made saw opens remaining contents told wrote records
-    others was now x y result task.Clear =
+HasDone is_up is_sound holds kept_of block_of made began saw opens remaining contents told wrote
+    records others was now x y result task.Clear =
     HasCleared made saw told records was now (talk_of remaining contents x.driver)
     (talk_of remaining contents y.driver) (lines_of y.driver) x.report y.report result
 
@@ -87,15 +87,15 @@ begun x = record x { report = no_report }
 
 abbrev pub HasAnswered : {F K R W : Type 0} (is_up is_sound : K → Type 0)
     (holds : K → List Record → Type 0) (kept_of : K → Kept) (block_of : K → Block)
-    → (F → F → Call → Type 0) → (F → Look → Type 0) → (F → Seen → K → Type 0)
+    (made began : F → F → Call → Type 0) → (F → Look → Type 0) → (F → Seen → K → Type 0)
     → (R → Option (List ℕ)) → (W → Option (List ℕ)) → (Said → Type 0) → (List ℕ → Type 0)
     → Asked → F → F → Session R W → Session R W → Result (Unit {0}) Failure → Type 0
-HasAnswered is_up is_sound holds kept_of block_of made saw opens remaining contents told wrote asked
-    was now x y result =
+HasAnswered is_up is_sound holds kept_of block_of made began saw opens remaining contents told wrote
+    asked was now x y result =
     (done : Result (Unit {0}) Failure)
     × (written : Result (Unit {0}) Failure)
-    × HasDone is_up is_sound holds kept_of block_of made saw opens remaining contents told wrote
-    asked.records.items asked.others.items was now (begun x) y done asked.task
+    × HasDone is_up is_sound holds kept_of block_of made began saw opens remaining contents told
+    wrote asked.records.items asked.others.items was now (begun x) y done asked.task
     × (result ≡ or_refused done written)
     × OnOk written (asked.as_json ≡ true
     → wrote (report_text (end_name asked.task done) (status_after status_of done) y.report))
@@ -104,18 +104,18 @@ HasAnswered is_up is_sound holds kept_of block_of made saw opens remaining conte
 -- is asked for, and nothing is put
 abbrev pub HasServed : {F K R W : Type 0} (is_up is_sound : K → Type 0)
     (holds : K → List Record → Type 0) (kept_of : K → Kept) (block_of : K → Block)
-    → (F → F → Call → Type 0) → (F → Look → Type 0) → (F → Seen → K → Type 0)
+    (made began : F → F → Call → Type 0) → (F → Look → Type 0) → (F → Seen → K → Type 0)
     → (R → Option (List ℕ)) → (W → Option (List ℕ)) → (Said → Type 0) → (List ℕ → Type 0)
     → Type 0 → F → F → Session R W → Session R W → Result (Unit {0}) Failure → Type 0
-HasServed is_up is_sound holds kept_of block_of made saw opens remaining contents told wrote shown
-    was now x y result =
+HasServed is_up is_sound holds kept_of block_of made began saw opens remaining contents told wrote
+    shown was now x y result =
     ((IsErr result ⊎ shown) × (now ≡ was) × (y ≡ x))
     ⊎ ((name : List ℕ)
     × (values : Values)
     × (asked : Asked)
     × IsAsked name values asked
-    × HasAnswered is_up is_sound holds kept_of block_of made saw opens remaining contents told wrote
-    asked was now x y result)
+    × HasAnswered is_up is_sound holds kept_of block_of made began saw opens remaining contents told
+    wrote asked was now x y result)
 
 -- WHY THE PROGRAM ENDED was said, if it did not end well and that needs to be said
 abbrev pub WhyTold : (Said → Type 0) → Result (Unit {0}) Failure → Option (Bor (List ℕ)) → Type 0

@@ -1,4 +1,4 @@
-use Rattle.std.specs.Prelude.{◌≡◌, ℕ, List, Option, Some, Ok}
+use Rattle.std.specs.Prelude.{◌≡◌, ℕ, Bool, List, Option, Some, Ok}
 use Rattle.std.specs.declared.alloc.Global.{Global}
 use Rattle.std.specs.declared.string.String.{String}
 use Rattle.dali_script.specs.declared.block.Block.{Block}
@@ -10,6 +10,7 @@ use Rattle.dali_replacement.specs.declared.come.Come.{Come}
 use Rattle.dali_replacement.specs.declared.come.Come.TheVariants.{Nowhere}
 use Rattle.dali_replacement.specs.declared.refusal.ReplaceRefusal.{ReplaceRefusal}
 use Rattle.dali_commission_said.specs.declared.failure.Failure.TheVariants.{NotReplaced}
+use Rattle.dali_commission_said.specs.declared.report.Report.{Report}
 use Rattle.dali_commission_said.specs.declared.report.Session.{Session}
 use Rattle.dali_commission_said.specs.declared.said.Said.{Said}
 use Rattle.dali_commission_stores.specs.Calls.{Call, Look}
@@ -29,21 +30,23 @@ IsNothingPut x y = (bytes : List ℕ) × (x.written ≡ Some bytes) × (y.writte
 -- A TASK THAT ENDED WELL HAS PUT SOMETHING, whatever its records are, and those of others
 abbrev pub PutsSomething : {F K R W : Type 0} (is_up is_sound : K → Type 0)
     (holds : K → List Record → Type 0) (kept_of : K → Kept) (block_of : K → Block)
-    → (F → F → Call → Type 0) → (F → Look → Type 0) → (F → Seen → K → Type 0)
+    (made began : F → F → Call → Type 0) → (F → Look → Type 0) → (F → Seen → K → Type 0)
     → (R → Option (List ℕ)) → (W → Option (List ℕ)) → (Said → Type 0) → (List ℕ → Type 0) → Task
     → Type 0
-PutsSomething {F = F} {R = R} {W = W} is_up is_sound holds kept_of block_of made saw opens remaining
-    contents told wrote task =
+PutsSomething {F = F} {R = R} {W = W} is_up is_sound holds kept_of block_of made began saw opens
+    remaining contents told wrote task =
     (records : List (String Global)) (others : List Block) (was now : F) (x y : Session R W)
-    → HasDone is_up is_sound holds kept_of block_of made saw opens remaining contents told wrote
-    records others was now x y (Ok (tt {0})) task
+    → HasDone is_up is_sound holds kept_of block_of made began saw opens remaining contents told
+    wrote records others was now x y (Ok (tt {0})) task
     → IsNothingPut (talk_of remaining contents x.driver) (talk_of remaining contents y.driver) → ⊥
 
 -- A REPLACEMENT THAT IS REFUSED because the others are not all there HAS PUT SOMETHING
 abbrev pub RefusedPutsSomething : Type 0
 RefusedPutsSomething =
-    (a : ℕ) (come : Come) (table : Kept) (gone : List ℕ) (why : ReplaceRefusal) (x y : Talk)
-    → HasNotAskedOthers a come table gone (NotReplaced a why) x y → IsNothingPut x y → ⊥
+    (heard : Bool) (a : ℕ) (come : Come) (table : Kept) (gone : List ℕ) (why : ReplaceRefusal)
+    (before after : Report) (x y : Talk)
+    → HasNotAskedOthers heard a come table gone (NotReplaced a why) before after x y
+    → IsNothingPut x y → ⊥
 
 -- A GEAR WITHOUT SHORT ADDRESS WAS LOOKED FOR in a replacement
 abbrev pub HasLookedIn : {F K R W : Type 0} (is_up is_sound : K → Type 0)
@@ -66,13 +69,14 @@ HasLookedIn {F = F} is_up is_sound holds kept_of block_of made saw opens remaini
 -- that has its random address is not told
 abbrev pub PutsOrLooks : {F K R W : Type 0} (is_up is_sound : K → Type 0)
     (holds : K → List Record → Type 0) (kept_of : K → Kept) (block_of : K → Block)
-    → (F → F → Call → Type 0) → (F → Look → Type 0) → (F → Seen → K → Type 0)
+    (made began : F → F → Call → Type 0) → (F → Look → Type 0) → (F → Seen → K → Type 0)
     → (R → Option (List ℕ)) → (W → Option (List ℕ)) → (Said → Type 0) → (List ℕ → Type 0)
     → Replacement → Type 0
-PutsOrLooks {F = F} {R = R} {W = W} is_up is_sound holds kept_of block_of made saw opens remaining
-    contents told wrote wanted =
+PutsOrLooks {F = F} {R = R} {W = W} is_up is_sound holds kept_of block_of made began saw opens
+    remaining contents told wrote wanted =
     (records : List (String Global)) (others : List Block) (was now : F) (x y : Session R W)
-    → HasDone is_up is_sound holds kept_of block_of made saw opens remaining contents told wrote
+    → HasDone is_up is_sound holds kept_of block_of made began saw opens remaining contents told
+    wrote
     records others was now x y (Ok (tt {0})) (task.Replace wanted)
     → IsNothingPut (talk_of remaining contents x.driver) (talk_of remaining contents y.driver)
     → (random : ℕ)

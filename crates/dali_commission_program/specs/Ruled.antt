@@ -1,4 +1,4 @@
-use Rattle.std.specs.Prelude.{◌≡◌, ◌⊎◌, ◌↔◌, ℕ, ◌<◌, Bool, true, false, List, Option, Some, Ok}
+use Rattle.std.specs.Prelude.{◌≡◌, ◌⊎◌, ◌↔◌, ℕ, ◌<◌, Bool, true, false, List, Option, Some, Ok, Err}
 use Rattle.std.specs.declared.alloc.Global.{Global}
 use Rattle.std.specs.declared.string.String.{String}
 use Rattle.dali_script.specs.declared.block.Block.{Block}
@@ -13,6 +13,7 @@ use Rattle.dali_commissioning.specs.Drivers.{Talk, talk_of}
 use Rattle.dali_commissioning.specs.Rules.{AsksByRules, PutsByRules, LeavesByRules}
 use Rattle.dali_commissioning.specs.Runs.{IsRead}
 use Rattle.dali_commissioning.specs.declared.fault.CommissionFault.{CommissionFault}
+use Rattle.dali_commission_said.specs.declared.failure.Failure.{Failure}
 use Rattle.dali_commission_said.specs.declared.report.Session.{Session}
 use Rattle.dali_commission_said.specs.declared.said.Said.{Said}
 use Rattle.dali_commission_stores.specs.Calls.{Call, Look}
@@ -93,12 +94,26 @@ WhatWasPutKeepsPromise {K = K} is_up is_sound holds =
 -- WHAT A TASK THAT ENDED WELL PUT IS SO, whatever its records are, and those of others
 abbrev pub PutsSo : {F K R W : Type 0} (is_up is_sound : K → Type 0)
     (holds : K → List Record → Type 0) (kept_of : K → Kept) (block_of : K → Block)
-    → (F → F → Call → Type 0) → (F → Look → Type 0) → (F → Seen → K → Type 0)
+    (made began : F → F → Call → Type 0) → (F → Look → Type 0) → (F → Seen → K → Type 0)
     → (R → Option (List ℕ)) → (W → Option (List ℕ)) → (Said → Type 0) → (List ℕ → Type 0) → Task
     → (F → List (String Global) → Talk → Talk → Type 0) → Type 0
-PutsSo {F = F} {R = R} {W = W} is_up is_sound holds kept_of block_of made saw opens remaining
+PutsSo {F = F} {R = R} {W = W} is_up is_sound holds kept_of block_of made began saw opens remaining
     contents told wrote task so =
     (records : List (String Global)) (others : List Block) (was now : F) (x y : Session R W)
-    → HasDone is_up is_sound holds kept_of block_of made saw opens remaining contents told wrote
-    records others was now x y (Ok (tt {0})) task
+    → HasDone is_up is_sound holds kept_of block_of made began saw opens remaining contents told
+    wrote records others was now x y (Ok (tt {0})) task
     → so was records (talk_of remaining contents x.driver) (talk_of remaining contents y.driver)
+
+-- and so is what one has put that failed
+abbrev pub FailsSo : {F K R W : Type 0} (is_up is_sound : K → Type 0)
+    (holds : K → List Record → Type 0) (kept_of : K → Kept) (block_of : K → Block)
+    (made began : F → F → Call → Type 0) → (F → Look → Type 0) → (F → Seen → K → Type 0)
+    → (R → Option (List ℕ)) → (W → Option (List ℕ)) → (Said → Type 0) → (List ℕ → Type 0) → Task
+    → (Talk → Talk → Type 0) → Type 0
+FailsSo {F = F} {R = R} {W = W} is_up is_sound holds kept_of block_of made began saw opens remaining
+    contents told wrote task so =
+    (records : List (String Global)) (others : List Block) (failure : Failure) (was now : F)
+    (x y : Session R W)
+    → HasDone is_up is_sound holds kept_of block_of made began saw opens remaining contents told
+    wrote records others was now x y (Err failure) task
+    → so (talk_of remaining contents x.driver) (talk_of remaining contents y.driver)

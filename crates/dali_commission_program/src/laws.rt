@@ -6,8 +6,8 @@ ghost use Rattle.dali_commissioning.specs.Drivers.{Talk};
 ghost use Rattle.dali_commissioning.specs.Rules.{AsksByRules};
 ghost use Rattle.dali_commission_program.specs.Accepted.{IsAccepted};
 ghost use Rattle.dali_commission_program.specs.Nothing.{PutsSomething, PutsOrLooks, RefusedPutsSomething};
-ghost use Rattle.dali_commission_program.specs.Ruled.{PutsSo, PutsOver, AsksOnBus};
-ghost use Rattle.dali_commission_replaced.specs.Ruled.{ReplacesByRules};
+ghost use Rattle.dali_commission_program.specs.Ruled.{PutsSo, FailsSo, PutsOver, AsksOnBus};
+ghost use Rattle.dali_commission_replaced.specs.Ruled.{ReplacesByRules, FailsByRules};
 ghost use Rattle.dali_commission_program.specs.Ruled.{WhatWasPutKeepsPromise, WhatASurveyLeavesKeepsRules};
 ghost use Rattle.dali_commission_program.specs.Ruled.{WhatAStartLeavesKeepsRules};
 ghost use Rattle.dali_commission_said.specs.Tables.{only};
@@ -33,22 +33,24 @@ where
     R: Read,
     W: Write,
     ensures identify { (a : ℕ) → PutsSomething F.Open.is_up F.Open.is_sound F.Open.holds F.Open.kept F.Open.block F.made
-        F.saw F.opens R.remaining W.contents (S.told _system.now) (S.wrote _system.now) (task.Identify a) }
-    ensures check { PutsSomething F.Open.is_up F.Open.is_sound F.Open.holds F.Open.kept F.Open.block F.made F.saw
-        F.opens R.remaining W.contents (S.told _system.now) (S.wrote _system.now) task.Check }
-    ensures clear { PutsSomething F.Open.is_up F.Open.is_sound F.Open.holds F.Open.kept F.Open.block F.made F.saw
-        F.opens R.remaining W.contents (S.told _system.now) (S.wrote _system.now) task.Clear }
+        F.began F.saw F.opens R.remaining W.contents (S.told _system.now) (S.wrote _system.now) (task.Identify a) }
+    ensures check { PutsSomething F.Open.is_up F.Open.is_sound F.Open.holds F.Open.kept F.Open.block F.made F.began
+        F.saw F.opens R.remaining W.contents (S.told _system.now) (S.wrote _system.now) task.Check }
+    ensures clear { PutsSomething F.Open.is_up F.Open.is_sound F.Open.holds F.Open.kept F.Open.block F.made F.began
+        F.saw F.opens R.remaining W.contents (S.told _system.now) (S.wrote _system.now) task.Clear }
     ensures run { (setup : Setup) → PutsSomething F.Open.is_up F.Open.is_sound F.Open.holds
-        F.Open.kept F.Open.block F.made F.saw F.opens R.remaining W.contents (S.told _system.now)
+        F.Open.kept F.Open.block F.made F.began F.saw F.opens R.remaining W.contents (S.told _system.now)
         (S.wrote _system.now) (task.Run setup) }
     ensures accept { (wanted : Replacement) → PutsSomething F.Open.is_up F.Open.is_sound F.Open.holds F.Open.kept
-        F.Open.block F.made F.saw F.opens R.remaining W.contents (S.told _system.now) (S.wrote _system.now)
+        F.Open.block F.made F.began F.saw F.opens R.remaining W.contents (S.told _system.now) (S.wrote _system.now)
         (task.Accept wanted) }
     ensures mend { (wanted : Mend) → PutsSomething F.Open.is_up F.Open.is_sound F.Open.holds F.Open.kept F.Open.block
-        F.made F.saw F.opens R.remaining W.contents (S.told _system.now) (S.wrote _system.now) (task.Mend wanted) }
+        F.made F.began F.saw F.opens R.remaining W.contents (S.told _system.now) (S.wrote _system.now) (task.Mend
+        wanted) }
     ensures refused { RefusedPutsSomething }
     ensures replace { (wanted : Replacement) → PutsOrLooks F.Open.is_up F.Open.is_sound F.Open.holds F.Open.kept
-        F.Open.block F.made F.saw F.opens R.remaining W.contents (S.told _system.now) (S.wrote _system.now) wanted }
+        F.Open.block F.made F.began F.saw F.opens R.remaining W.contents (S.told _system.now) (S.wrote _system.now)
+        wanted }
 {}
 
 /// WHAT A TASK PUTS KEEPS THE RULES OF THE PAGE of `dali_statement`, if it ended well: each line is that of an act of
@@ -56,7 +58,8 @@ where
 /// `replace --accept` need no records: these are questions. A run does that mends nothing, over the store that was
 /// opened for it. A replacement does over the store for the one short address, and over records in memory while it
 /// looks for the new gear. What a run put that did not begin, or was left while its machines ran, keeps the rules too
-/// (`survey_left`, `start_left`).
+/// (`survey_left`, `start_left`). So does what a replacement put that failed, unless the talk shows a fault or a lost
+/// question (`replace_failed`).
 ///
 /// To mend and to clear need what the rules forbid.
 pub fn tasks_keep_the_rules_of_the_page<S, F, R, W>(_system: &S)
@@ -66,21 +69,25 @@ where
     R: Read,
     W: Write,
     ensures identify { (a : ℕ) → a < 64 → PutsSo F.Open.is_up F.Open.is_sound F.Open.holds F.Open.kept F.Open.block
-        F.made F.saw F.opens R.remaining W.contents (S.told _system.now) (S.wrote _system.now) (task.Identify a)
+        F.made F.began F.saw F.opens R.remaining W.contents (S.told _system.now) (S.wrote _system.now) (task.Identify a)
         (λ was records x y. AsksByRules x y) }
-    ensures check { PutsSo F.Open.is_up F.Open.is_sound F.Open.holds F.Open.kept F.Open.block F.made F.saw F.opens
-        R.remaining W.contents (S.told _system.now) (S.wrote _system.now) task.Check
+    ensures check { PutsSo F.Open.is_up F.Open.is_sound F.Open.holds F.Open.kept F.Open.block F.made F.began F.saw
+        F.opens R.remaining W.contents (S.told _system.now) (S.wrote _system.now) task.Check
         (λ was records x y. AsksByRules x y) }
     ensures run { (setup : Setup) → setup.mends ≡ false → PutsSo F.Open.is_up F.Open.is_sound F.Open.holds F.Open.kept
-        F.Open.block F.made F.saw F.opens R.remaining W.contents (S.told _system.now) (S.wrote _system.now)
+        F.Open.block F.made F.began F.saw F.opens R.remaining W.contents (S.told _system.now) (S.wrote _system.now)
         (task.Run setup) (λ was records x y. PutsOver F.Open.is_up F.Open.is_sound F.Open.holds F.Open.block
         (IsOpened F.Open.block F.saw F.opens was (only records) setup.block) x y) }
     ensures replace { (wanted : Replacement) → wanted.short < 64 → PutsSo F.Open.is_up F.Open.is_sound F.Open.holds
-        F.Open.kept F.Open.block F.made F.saw F.opens R.remaining W.contents (S.told _system.now)
+        F.Open.kept F.Open.block F.made F.began F.saw F.opens R.remaining W.contents (S.told _system.now)
         (S.wrote _system.now) (task.Replace wanted)
         (λ was records x y. ReplacesByRules F.Open.is_up F.Open.is_sound F.Open.holds wanted.short x y) }
+    ensures replace_failed { (wanted : Replacement) → wanted.short < 64 → FailsSo F.Open.is_up F.Open.is_sound
+        F.Open.holds F.Open.kept F.Open.block F.made F.began F.saw F.opens R.remaining W.contents (S.told _system.now)
+        (S.wrote _system.now) (task.Replace wanted)
+        (λ x y. FailsByRules F.Open.is_up F.Open.is_sound F.Open.holds wanted.short x y) }
     ensures accept { (wanted : Replacement) → wanted.short < 64 → PutsSo F.Open.is_up F.Open.is_sound F.Open.holds
-        F.Open.kept F.Open.block F.made F.saw F.opens R.remaining W.contents (S.told _system.now)
+        F.Open.kept F.Open.block F.made F.began F.saw F.opens R.remaining W.contents (S.told _system.now)
         (S.wrote _system.now) (task.Accept wanted) (λ was records x y. AsksByRules x y) }
     ensures survey_left { WhatASurveyLeavesKeepsRules F.Open.is_up F.Open.is_sound F.Open.holds }
     ensures start_left { WhatAStartLeavesKeepsRules F.Open.is_up F.Open.is_sound F.Open.holds }

@@ -14,7 +14,7 @@ use crate::writing::{Text, Writes};
 use dali_commission_asked::{checks, identify};
 use dali_commission_cleared::clears;
 use dali_commission_mended::{Running, mends};
-use dali_commission_replaced::{accepts, note_first, replaces};
+use dali_commission_replaced::{accepts, replaces};
 use dali_commission_said::{Failure, Manner, Report, Session, Voice, say, why_said};
 use dali_commission_stores::{Reading, Stores, lend, lend_copy};
 use dali_commission_tasks::{Asked, TableForm, Task};
@@ -52,7 +52,7 @@ where
     F: Stores,
     R: Read,
     W: Write,
-    ensures { HasDone F.Open.is_up F.Open.is_sound F.Open.holds F.Open.kept F.Open.block F.made F.saw F.opens
+    ensures { HasDone F.Open.is_up F.Open.is_sound F.Open.holds F.Open.kept F.Open.block F.made F.began F.saw F.opens
         R.remaining
         W.contents (S.told system.now) (S.wrote system.now) asked.now.records.items asked.now.others.items stores.old
         stores.new
@@ -81,39 +81,9 @@ where
         Task::Identify(short) => identify(system, &mut session.driver, *short, &mut session.report),
         Task::Table(form) => writes_table(system, stores, only(&asked.records), *form),
         Task::Replace(wanted) => {
-            match replaces(
-                system,
-                stores,
-                &mut session.driver,
-                manner,
-                &asked.records,
-                wanted,
-                &mut session.report,
-            ) {
-                Ok(_heard) => {
-                    note_first(alloc, stores, name, &mut session.report);
-                    Ok(())
-                }
-                Err(failure) => Err(failure),
-            }
+            replaces(system, stores, session, manner, &asked.records, wanted)
         }
-        Task::Accept(wanted) => {
-            match accepts(
-                system,
-                stores,
-                &mut session.driver,
-                manner,
-                &asked.records,
-                wanted,
-                &mut session.report,
-            ) {
-                Ok(_heard) => {
-                    note_first(alloc, stores, name, &mut session.report);
-                    Ok(())
-                }
-                Err(failure) => Err(failure),
-            }
-        }
+        Task::Accept(wanted) => accepts(system, stores, session, manner, &asked.records, wanted),
         Task::Mend(wanted) => mends(system, stores, session, manner, asked, wanted),
         Task::Clear => clears(
             system,
@@ -212,8 +182,8 @@ where
     R: Read,
     W: Write,
     ensures why { (name : Option (Bor (List ℕ))) × WhyTold (S.told system.now) result name }
-    ensures done { HasAnswered F.Open.is_up F.Open.is_sound F.Open.holds F.Open.kept F.Open.block F.made F.saw F.opens
-        R.remaining
+    ensures done { HasAnswered F.Open.is_up F.Open.is_sound F.Open.holds F.Open.kept F.Open.block F.made F.began F.saw
+        F.opens R.remaining
         W.contents (S.told system.now) (S.wrote system.now) asked.now stores.old stores.new session.old session.new
         result }
 {
@@ -272,8 +242,8 @@ where
     R: Read,
     W: Write,
     ensures why { (name : Option (Bor (List ℕ))) × WhyTold (S.told system.now) result name }
-    ensures done { HasServed F.Open.is_up F.Open.is_sound F.Open.holds F.Open.kept F.Open.block F.made F.saw F.opens
-        R.remaining
+    ensures done { HasServed F.Open.is_up F.Open.is_sound F.Open.holds F.Open.kept F.Open.block F.made F.began F.saw
+        F.opens R.remaining
         W.contents (S.told system.now) (S.wrote system.now) (S.shown system.now) stores.old stores.new session.old
         session.new result }
 {

@@ -1,31 +1,32 @@
-use Rattle.std.proofs.Common.{◌≡◌, ◌∙◌, ◌⊎◌, ℕ, List, [], ◌∷◌, ◌++◌, Option, Some, None, Result, Ok, Err, OnOk, refl, ap, inl, inr, subst, sym}
+use Rattle.std.proofs.Common.{◌≡◌, ◌∙◌, ℕ, List, [], ◌∷◌, ◌++◌, Option, Some, None, Result, Ok, Err, OnOk, refl, ap, inl, inr, subst, sym}
 use Rattle.std.proofs.lemmas.Bool.{false≢true}
-use Rattle.std.specs.Prelude.{IfOk, IfErr, IsErr, is_ok, map, false, string_bytes}
+use Rattle.std.specs.Prelude.{IfOk, IfErr, IsErr, is_ok, map, string_bytes}
 use Rattle.std.specs.declared.{alloc.Global.Global, string.String.String}
 use Rattle.dali_script.specs.{declared.block.Block.Block, declared.records.Record.Record, Records.Kept, Records.HasAddress}
 use Rattle.dali_commissioning.specs.declared.census.Reply.TheVariants as heard
 use Rattle.dali_commissioning.specs.declared.{conducting.PassEnd.PassEnd, driver.DriverLink.DriverLink}
-use Rattle.dali_commissioning.specs.{Census.IsAnswered, Drivers.{Talk, talk_of}, Runs.IsRead}
+use Rattle.dali_commissioning.specs.{Census.IsAnswered, Drivers.{Talk, talk_of, lines_of}, Runs.IsRead}
 use Rattle.dali_replacement.specs.declared.come.Come.{Come}
-use Rattle.dali_replacement.specs.{Permit.{HasGiven, HasLooked, alone, confirmed_at, confirmed_random}, Tables.{IsComplete, IsGathered, Keeps, Reserves}}
-use Rattle.dali_replacement.specs.{declared.swapping.Swap.Swap, Swapping.{address_of, texts_of}}
-use Rattle.dali_commission_said.specs.declared.{failure.Failure.Failure, progress.Aim.Aim, said.Said.Said}
+use Rattle.dali_replacement.specs.{Permit.{HasGiven, HasLooked, alone, confirmed_at, confirmed_random}, Tables.{IsComplete, IsGathered}}
+use Rattle.dali_replacement.specs.{declared.swapping.Swap.Swap, Swapping.{address_of, number_of, texts_of}}
+use Rattle.dali_commission_said.specs.declared.{failure.Failure.Failure, progress.Aim.Aim, report.{Report.Report, Session.Session}, said.Said.Said}
 use Rattle.dali_commission_said.specs.{Reports.heard_of, Said.{AreTold, WhySaid, heard_said}}
 use Rattle.dali_commission_tasks.specs.declared.tasks.Replacement.{Replacement}
-use Rattle.dali_commission_stores.specs.{Calls.{Call, Look, Read, AreMade}, declared.records.Seen.Seen, Settling.new_at}
-use Rattle.dali_commission_stores.specs.{Lent.{IsLent, IsOpened, IsHeld, AreRead, lent_calls}, Settled.IsExchanged}
+use Rattle.dali_commission_stores.specs.{Calls.{Call, Look, Read}, declared.records.Seen.Seen, Settling.new_at}
+use Rattle.dali_commission_stores.specs.{Keeping.AreFree, Lent.{IsLent, IsOpened, IsHeld, AreRead}, Settled.IsExchanged}
 use Rattle.dali_commission_asked.specs.{declared.ending.AtLast.AtLast, Ending.{HasAskedAtLast, pass_at_last}}
-use Rattle.dali_commission_replaced.specs.{declared.replacing.DueSwap.DueSwap, Due.Dues}
-use Rattle.dali_commission_replaced.specs.Replacing.{IsGiver, IsDue, HasCome, AreAsideIf, AreAtPlaces, AreApart, AreUnannounced}
+use Rattle.dali_commission_replaced.specs.{declared.replacing.DueSwap.DueSwap, Due.{Dues, EndsDue}}
+use Rattle.dali_commission_replaced.specs.Replacing.{IsGiver, HasCome, AreAsideIf, AreAtPlaces, AreApart}
 use Rattle.dali_commission_replaced.specs.Finishing.{AreFinished}
 use Rattle.dali_commission_replaced.specs.Asking.{HasAskedOthers, given_as, HasGivenSo, GivesSo, IsGivenIn, GivesFirst, IsNamed, IsRenewed, AreRenewed}
-use Rattle.dali_commission_replaced.specs.Asking.{all_shorts, IsPlanned, HasReplacedSo, HasReplacedAnew, HasReplaced}
+use Rattle.dali_commission_replaced.specs.Asking.{IsPlanned, HasReplacedSo, HasReplacedAnew, HasReplaced, first_table, NotesFirst, IsConfirmed}
+use Rattle.dali_commission_replaced.specs.Asking.{HasNotReplaced, IsReplacement}
 use Rattle.dali_commission_replaced.specs.Tellings.{ConfirmedTold}
 
 pub err_ok : {T : Type 0} (e : Failure) (it : T) → Err e ≡ Ok it → ⊥
 err_ok e it is = false≢true (ap (λ r. is_ok r) is)
 
-abbrev value_or : {T : Type 0} → T → Result T Failure → T
+abbrev pub value_or : {T : Type 0} → T → Result T Failure → T
 value_or a (Ok it) = it
 value_or a (Err e) = a
 
@@ -172,57 +173,58 @@ module _ {F K R W : Type 0} (is_up is_sound : K → Type 0) (holds : K → List 
   }
 
   -- IT WAS REPLACED IN ALL RECORDS OF A SITE, while they were held.
-  pub replaced_anew : {H : Type 0} (names : List (String Global)) (was now : F) (x y : DriverLink R W) (copies : List Kept) (out : DueSwap)
-      → AreRead saw was names [] copies
+  pub replaced_anew : (began : F → F → Call → Type 0) {H : Type 0} (names : List (String Global)) (was now : F) (x y : Session R W) (noted : Report)
+      (copies : List Kept) (out : DueSwap) → AreRead saw was names [] copies
       → IsHeld {H = H} saw names (Dues is_up is_sound holds kept_of block_of made saw opens remaining contents told wanted names)
-      (λ _ from to due out. IsExchanged made saw due.swap from to × (out ≡ due)) was now x y (Ok out)
-      → ConfirmedTold told (confirmed_at out.confirmed) (confirmed_random out.confirmed) out.news.items
-      → (confirmed_at out.confirmed ≡ wanted.short)
-      × HasReplacedAnew is_up is_sound holds kept_of block_of made saw opens remaining contents told wanted names (confirmed_random out.confirmed)
-      was now x y
-  replaced_anew names was now x y copies out read (inl (err, same, besides)) says = absurd (false≢true err)
-  replaced_anew names was now x y copies out read (inr (all, held, at, Err e, dues, (by, due, is, ends))) says = absurd (err_ok e due is)
-  replaced_anew names was now x y copies out read
-      (inr (all, held, at, Ok did, (bare, (swap, short, files, (n, complete)), so), (by, due, is, (exchanged, same)))) says =
-      let same_due : did ≡ out = ok_same did due (Ok did) is ∙ sym same in (
-        subst (λ (d : DueSwap). confirmed_at d.confirmed ≡ wanted.short) same_due short,
-        record {
-          copies = copies;
-          read = read;
-          all = all;
-          held = held;
-          bare = bare;
-          news = out.news.items;
-          at = at;
-          replaced =
-              subst (λ (d : DueSwap). HasReplacedSo is_up is_sound holds kept_of block_of made saw opens remaining contents told wanted names all
-              d.news.items (confirmed_random d.confirmed) was at x y) same_due so;
-          swap = out.swap;
-          of = subst (λ (d : DueSwap). address_of d.swap ≡ wanted.short) same_due swap;
-          files = subst (λ (d : DueSwap). texts_of d.swap ≡ map string_bytes names) same_due files;
-          count = n;
-          complete = subst (λ (d : DueSwap). IsComplete n wanted.short (confirmed_random d.confirmed) all d.news.items) same_due complete;
-          exchanged = subst (λ (d : DueSwap). IsExchanged made saw d.swap at now) (sym same) exchanged;
-          says =
-              subst (λ (a : ℕ). ConfirmedTold told a (confirmed_random out.confirmed) out.news.items)
-              (subst (λ (d : DueSwap). confirmed_at d.confirmed ≡ wanted.short) same_due short) says;
-        },
-      )
+      (λ _ from to due r. EndsDue made began saw from to due r) was now x y (Ok out)
+      → ConfirmedTold told (confirmed_at out.confirmed) (confirmed_random out.confirmed) out.news.items → noted ≡ first_table out.news.items y.report
+      → HasReplacedAnew is_up is_sound holds kept_of block_of made saw opens remaining contents told wanted names (confirmed_random out.confirmed)
+      was now x (record { driver = y.driver; report = noted })
+  replaced_anew began names was now x y noted copies out read (inl (err, same, besides)) says notes = absurd (false≢true err)
+  replaced_anew began names was now x y noted copies out read (inr (all, held, at, Err e, dues, (by, due, is, ends))) says notes = absurd (err_ok e due is)
+  replaced_anew began names was now x y noted copies out read
+      (inr (all, held, at, Ok did, (bare, (swap, short, files, (n, complete), free), so, counts), (by, due, is, (exchanged, same)))) says notes =
+      let same_due : did ≡ out = ok_same did due (Ok did) is ∙ sym same in
+      record {
+        copies = copies;
+        read = read;
+        all = all;
+        held = held;
+        bare = bare;
+        news = out.news.items;
+        at = at;
+        replaced =
+            subst (λ (d : DueSwap). HasReplacedSo is_up is_sound holds kept_of block_of made saw opens remaining contents told wanted names all
+            d.news.items (confirmed_random d.confirmed) was at x.driver y.driver) same_due so;
+        swap = out.swap;
+        of = subst (λ (d : DueSwap). address_of d.swap ≡ wanted.short) same_due swap;
+        files = subst (λ (d : DueSwap). texts_of d.swap ≡ map string_bytes names) same_due files;
+        free = subst (λ (d : DueSwap). AreFree saw at [] (number_of d.swap) names) same_due free;
+        count = n;
+        complete = subst (λ (d : DueSwap). IsComplete n wanted.short (confirmed_random d.confirmed) all d.news.items) same_due complete;
+        exchanged = subst (λ (d : DueSwap). IsExchanged made saw d.swap at now) (sym same) exchanged;
+        says =
+            subst (λ (a : ℕ). ConfirmedTold told a (confirmed_random out.confirmed) out.news.items)
+            (subst (λ (d : DueSwap). confirmed_at d.confirmed ≡ wanted.short) same_due short) says;
+        reports = notes ∙ ap (λ (r : Report). first_table out.news.items r) counts;
+      }
 
   -- and so it is of the files of records, if no exchange of an earlier call was brought to its end
-  pub replaced : {H : Type 0} (records names apart ended copied meant held : List (String Global)) (earlier : Option Swap) (was at now : F)
-      (x y : DriverLink R W) (none copies news : List Kept) (out : DueSwap)
+  pub replaced : (began : F → F → Call → Type 0) {H : Type 0} (records names apart ended copied meant held : List (String Global)) (earlier : Option Swap)
+      (was at now : F) (x y : Session R W) (noted : Report) (none copies news tables : List Kept) (out : DueSwap)
       → AreAtPlaces saw was records [] names → apart ≡ names → AreApart apart → ended ≡ names → AreFinished made saw told wanted.short ended was at earlier
       → earlier ≡ None → copied ≡ names → none ≡ [] → AreRead saw at copied none copies → meant ≡ names → held ≡ names
       → IsHeld {H = H} saw held (Dues is_up is_sound holds kept_of block_of made saw opens remaining contents told wanted meant)
-      (λ _ from to due out. IsExchanged made saw due.swap from to × (out ≡ due)) at now x y (Ok out)
+      (λ _ from to due r. EndsDue made began saw from to due r) at now x y (Ok out)
       → news ≡ out.news.items → ConfirmedTold told (confirmed_at out.confirmed) (confirmed_random out.confirmed) news
-      → HasReplaced is_up is_sound holds kept_of block_of made saw opens remaining contents told wanted records (confirmed_random out.confirmed) was now x y
-  replaced {H = H} records names apart ended copied meant held earlier was at now x y none copies news out places apart_is are_apart ended_is finished
-      without copied_is none_is read meant_is held_is holding news_is says =
-      let dues : List (String Global) → List Kept → F → F → DriverLink R W → DriverLink R W → Result DueSwap Failure → Type 0 =
+      → tables ≡ out.news.items → noted ≡ first_table tables y.report
+      → HasReplaced is_up is_sound holds kept_of block_of made saw opens remaining contents told wanted records (confirmed_random out.confirmed) was now x
+      (record { driver = y.driver; report = noted })
+  replaced began {H = H} records names apart ended copied meant held earlier was at now x y noted none copies news tables out places apart_is are_apart
+      ended_is finished without copied_is none_is read meant_is held_is holding news_is says tables_are notes =
+      let dues : List (String Global) → List Kept → F → F → Session R W → Session R W → Result DueSwap Failure → Type 0 =
       λ l. Dues is_up is_sound holds kept_of block_of made saw opens remaining contents told wanted l in
-      let ends : H → F → F → DueSwap → DueSwap → Type 0 = λ _ from to due out. IsExchanged made saw due.swap from to × (out ≡ due) in
+      let ends : H → F → F → DueSwap → Result DueSwap Failure → Type 0 = λ _ from to due r. EndsDue made began saw from to due r in
       let hold_all : IsHeld {H = H} saw names (dues names) ends at now x y (Ok out) =
       subst (λ (l : List (String Global)). IsHeld {H = H} saw names (dues l) ends at now x y (Ok out)) meant_is
       (subst (λ (l : List (String Global)). IsHeld {H = H} saw l (dues meant) ends at now x y (Ok out)) held_is holding) in
@@ -238,5 +240,34 @@ module _ {F K R W : Type 0} (is_up is_sound : K → Type 0) (holds : K → List 
         subst (λ (l : List (String Global)). AreApart l) apart_is are_apart,
         subst (λ (l : List (String Global)). AreFinished made saw told wanted.short l was at None) ended_is
             (subst (λ (o : Option Swap). AreFinished made saw told wanted.short ended was at o) without finished),
-        (replaced_anew {H = H} names at now x y copies out read_all hold_all tells).1,
+        replaced_anew began {H = H} names at now x y noted copies out read_all hold_all tells
+            (notes ∙ ap (λ (l : List Kept). first_table l y.report) tables_are),
       )
+
+  -- or one was, and is confirmed
+  pub replaced_before : (records names apart ended : List (String Global)) (earlier : Option Swap) (swap : Swap) (random : ℕ) (was at : F)
+      (x y : Session R W) (noted : Report) → AreAtPlaces saw was records [] names → apart ≡ names → AreApart apart → ended ≡ names
+      → AreFinished made saw told wanted.short ended was at earlier → earlier ≡ Some swap
+      → IsConfirmed saw told wanted.short wanted.missing.items at (names_of swap) random (talk_of remaining contents x.driver)
+      (talk_of remaining contents y.driver) → y.report ≡ record x.report { frames = lines_of y.driver } → NotesFirst saw at records y.report noted
+      → HasReplaced is_up is_sound holds kept_of block_of made saw opens remaining contents told wanted records random was at x
+      (record { driver = y.driver; report = noted })
+  replaced_before records names apart ended earlier swap random was at x y noted places apart_is are_apart ended_is finished some confirms counts notes = (
+    names,
+    at,
+    Some swap,
+    places,
+    subst (λ (l : List (String Global)). AreApart l) apart_is are_apart,
+    subst (λ (l : List (String Global)). AreFinished made saw told wanted.short l was at (Some swap)) ended_is
+        (subst (λ (o : Option Swap). AreFinished made saw told wanted.short ended was at o) some finished),
+    (refl, confirms, subst (λ (r : Report). NotesFirst saw at records r noted) counts notes),
+  )
+
+  -- It ends so, well or not.
+  pub replacement : (began : F → F → Call → Type 0) (records : List (String Global)) (was now : F) (x y : Session R W) (r : Result (Unit {0}) Failure)
+      → OnOk r ((random : ℕ)
+      × HasReplaced is_up is_sound holds kept_of block_of made saw opens remaining contents told wanted records random was now x y)
+      → IfErr r (λ e. HasNotReplaced is_up is_sound holds kept_of block_of made began saw opens remaining contents told wanted records e was now x y)
+      → IsReplacement is_up is_sound holds kept_of block_of made began saw opens remaining contents told wanted records was now x y r
+  replacement began records was now x y (Ok done) so not = so
+  replacement began records was now x y (Err e) so not = not

@@ -1,5 +1,6 @@
-mod Accepted
+pub mod Accepted
 mod Cut
+pub mod Failed
 pub mod Finished
 pub mod Given
 pub mod Ruled

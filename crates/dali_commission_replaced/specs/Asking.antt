@@ -14,37 +14,44 @@ use Rattle.dali_commissioning.specs.declared.conducting.Ended.TheVariants.{Done}
 use Rattle.dali_commissioning.specs.declared.conducting.PassEnd.{PassEnd}
 use Rattle.dali_commissioning.specs.declared.driver.DriverLink.{DriverLink}
 use Rattle.dali_commissioning.specs.Census.{IsAnswered}
-use Rattle.dali_commissioning.specs.Drivers.{Talk, talk_of}
+use Rattle.dali_commissioning.specs.Drivers.{Talk, talk_of, has_heard, lines_of}
 use Rattle.dali_commissioning.specs.Places.{places}
 use Rattle.dali_commissioning.specs.Runs.{IsRead}
 use Rattle.dali_replacement.specs.declared.come.Come.{Come}
 use Rattle.dali_replacement.specs.declared.come.Come.TheVariants.{Nowhere, Reserved, Given}
 use Rattle.dali_replacement.specs.declared.refusal.ReplaceFault.{ReplaceFault}
+use Rattle.dali_replacement.specs.declared.refusal.ReplaceRefusal.TheVariants as refusal
 use Rattle.dali_replacement.specs.Come.{may_be_heard}
 use Rattle.dali_replacement.specs.Permit.{HasGiven, HasLooked, IsNotLooked, alone}
+use Rattle.dali_replacement.specs.Permit.{confirmed_random}
 use Rattle.dali_replacement.specs.Standing.{AreHeard, AreThere}
-use Rattle.dali_replacement.specs.Swapping.{address_of, names_of, texts_of}
+use Rattle.dali_replacement.specs.Swapping.{address_of, number_of, names_of, texts_of}
 use Rattle.dali_replacement.specs.declared.swapping.Swap.{Swap}
 use Rattle.dali_replacement.specs.Tables.{AreGiven, IsGathered, IsComplete, Keeps, Reserves}
 use Rattle.dali_commission_said.specs.declared.failure.Failure.{Failure}
+use Rattle.dali_commission_said.specs.declared.failure.Failure.TheVariants.{NotReplaced}
+use Rattle.dali_commission_said.specs.declared.report.Report.{Report}
+use Rattle.dali_commission_said.specs.declared.report.Session.{Session}
 use Rattle.dali_commission_said.specs.declared.progress.Aim.{Aim}
 use Rattle.dali_commission_said.specs.declared.said.Said.{Said}
 use Rattle.dali_commission_said.specs.Failures.{ended_as, fault_of, although_exchanged}
-use Rattle.dali_commission_said.specs.Reports.{heard_of}
+use Rattle.dali_commission_said.specs.Reports.{heard_of, table_of}
 use Rattle.dali_commission_said.specs.Said.{AreTold, WhySaid, heard_said}
 use Rattle.dali_commission_stores.specs.Calls.{Call, Look, Read, AreMade}
 use Rattle.dali_commission_stores.specs.declared.records.Seen.{Seen}
+use Rattle.dali_commission_stores.specs.Keeping.{AreFree}
 use Rattle.dali_commission_stores.specs.Lent.{IsLent, IsOpened, AreRead, lent_calls}
-use Rattle.dali_commission_stores.specs.Settled.{IsExchanged}
+use Rattle.dali_commission_stores.specs.Settled.{IsExchanged, IsExchangedInPart}
 use Rattle.dali_commission_stores.specs.Settling.{new_at}
 use Rattle.dali_commission_asked.specs.declared.ending.AtLast.{AtLast}
 use Rattle.dali_commission_asked.specs.Ending.{HasAskedAtLast, pass_at_last}
 use Rattle.dali_commission_tasks.specs.declared.tasks.Replacement.{Replacement}
+use Rattle.dali_commission_replaced.specs.declared.replacing.DueSwap.{DueSwap}
 use Rattle.dali_commission_replaced.specs.Cut.{HasNotAskedOthers, IsGivingCut, IsNotInFirst}
 use Rattle.dali_commission_replaced.specs.Cut.{IsNotHeardOf}
-use Rattle.dali_commission_replaced.specs.Finishing.{AreFinished}
+use Rattle.dali_commission_replaced.specs.Finishing.{AreFinished, AreFinishedInPart}
 use Rattle.dali_commission_replaced.specs.Replacing.{IsGiver, HasCome, AreAsideIf, AreAtPlaces}
-use Rattle.dali_commission_replaced.specs.Replacing.{AreApart, AreUnannounced}
+use Rattle.dali_commission_replaced.specs.Replacing.{AreApart, AreUnannounced, IsDue}
 use Rattle.dali_commission_replaced.specs.Tellings.{ConfirmedTold}
 
 -- WHAT `replace` PUTS. First the short address is asked, and then each gear of the table: what is
@@ -79,26 +86,40 @@ IsConfirmed saw told a gone stores names random x y =
     × HasConfirmed a gone tables random x y
     × ConfirmedTold told a random tables
 
--- If that fails: nothing is put, or the others are not all there, or the gear is not heard.
-abbrev pub HasNotConfirmed : ℕ → List ℕ → List Kept → Failure → Talk → Talk → Type 0
-HasNotConfirmed a gone tables failure x y =
-    (y ≡ x)
+-- If that fails: no gear has the address by the first table, or two disagree, and nothing is put;
+-- or the others are not all there, or the gear is not heard.
+abbrev pub LacksFirst : ℕ → List Kept → Type 0
+LacksFirst a [] = Unit {0}
+LacksFirst a (table ∷ more) = HasAddress table.enrolled a → ⊥
+
+abbrev pub HasNotConfirmed : Bool → ℕ → List ℕ → List Kept → Failure → Report → Report → Talk
+    → Talk → Type 0
+HasNotConfirmed heard a gone tables failure before after x y =
+    ((y ≡ x)
+    × (after ≡ before)
+    × ((LacksFirst a tables × (failure ≡ NotReplaced a refusal.NotGiven))
+    ⊎ ((other : ℕ) × (failure ≡ NotReplaced other refusal.Disagree))))
     ⊎ ((table : Kept)
     × (given : ℕ)
     × IsGathered a tables table
-    × (HasNotAskedOthers a (Given given) table gone failure x y
+    × (HasNotAskedOthers heard a (Given given) table gone failure before after x y
     ⊎ ((at : Talk)
     × HasAskedOthers a (Given given) table gone x at
-    × IsNotHeardOf a tables failure at y)))
+    × IsNotHeardOf a tables failure at y
+    × (after ≡ before))))
 
-abbrev pub IsNotConfirmedBy : {F : Type 0} → (F → Look → Type 0) → ℕ → List ℕ → F
-    → List (String Global) → Failure → Talk → Talk → Type 0
-IsNotConfirmedBy saw a gone stores names failure x y =
+abbrev pub IsNotConfirmedBy : {F R W : Type 0} → (F → Look → Type 0) → (R → Option (List ℕ))
+    → (W → Option (List ℕ)) → ℕ → List ℕ → F → List (String Global) → Failure → Session R W
+    → Session R W → Type 0
+IsNotConfirmedBy saw remaining contents a gone stores names failure x y =
     (tables : List Kept)
     × (failed : Failure)
+    × (after : Report)
     × AreRead saw stores names [] tables
-    × HasNotConfirmed a gone tables failed x y
+    × HasNotConfirmed (has_heard y.driver) a gone tables failed x.report after
+    (talk_of remaining contents x.driver) (talk_of remaining contents y.driver)
     × (failure ≡ although_exchanged failed)
+    × (y.report ≡ record after { frames = lines_of y.driver })
 
 -- THE ADDRESS IS GIVEN by surveys over new records that are open; then gear are asked at last, and
 -- it is said how the surveys ended, by the records then. A full block is no failure: the records
@@ -321,15 +342,22 @@ pub record HasNotReplacedSo {F K R W : Type 0} (is_up is_sound : K → Type 0)
     (made : F → F → Call → Type 0) (saw : F → Look → Type 0) (opens : F → Seen → K → Type 0)
     (remaining : R → Option (List ℕ)) (contents : W → Option (List ℕ)) (told : Said → Type 0)
     (wanted : Replacement) (names : List (String Global)) (all : List Kept) (failure : Failure)
-    (was : F) (x y : DriverLink R W) : Type 0 where
+    (was : F) (reported report : Report) (x y : DriverLink R W) : Type 0 where
   pub plan : IsPlanned made saw told wanted names all was
-  pub puts : HasNotAskedOthers wanted.short plan.come plan.table wanted.missing.items failure
-      (talk_of remaining contents x) (talk_of remaining contents y)
+  pub puts : HasNotAskedOthers (has_heard y) wanted.short plan.come plan.table wanted.missing.items
+      failure reported report (talk_of remaining contents x) (talk_of remaining contents y)
       ⊎ ((before : DriverLink R W)
       × HasAskedOthers wanted.short plan.come plan.table wanted.missing.items
       (talk_of remaining contents x) (talk_of remaining contents before)
       × GivesCut is_up is_sound holds kept_of block_of made saw opens remaining contents told
-      wanted.short plan.come plan.table names all plan.giver plan.stores failure before y)
+      wanted.short plan.come plan.table names all plan.giver plan.stores failure before y
+      × (report ≡ reported))
+
+-- WHAT IS REPORTED: how many frames were put, and the table of the first file
+abbrev pub first_table : List Kept → Report → Report
+first_table [] report = report
+first_table (table ∷ more) report =
+    record report { table = record { items = table_of table } }
 
 -- A LUMINAIRE IS REPLACED in all records of a site, once a copy of each was read and while they are
 -- held: no journal lies beside any then, and the new tables are complete. The files are exchanged,
@@ -339,7 +367,7 @@ pub record HasReplacedAnew {F K R W : Type 0} (is_up is_sound : K → Type 0)
     (made : F → F → Call → Type 0) (saw : F → Look → Type 0) (opens : F → Seen → K → Type 0)
     (remaining : R → Option (List ℕ)) (contents : W → Option (List ℕ)) (told : Said → Type 0)
     (wanted : Replacement) (names : List (String Global)) (random : ℕ) (was now : F)
-    (x y : DriverLink R W) : Type 0 where
+    (x y : Session R W) : Type 0 where
   pub copies : List Kept
   pub read : AreRead saw was names [] copies
   pub all : List Kept
@@ -348,30 +376,44 @@ pub record HasReplacedAnew {F K R W : Type 0} (is_up is_sound : K → Type 0)
   pub news : List Kept
   pub at : F
   pub replaced : HasReplacedSo is_up is_sound holds kept_of block_of made saw opens remaining
-      contents told wanted names all news random was at x y
+      contents told wanted names all news random was at x.driver y.driver
   pub swap : Swap
   pub of : address_of swap ≡ wanted.short
   pub files : texts_of swap ≡ map string_bytes names
+  pub free : AreFree saw at [] (number_of swap) names
   pub count : ℕ
   pub complete : IsComplete count wanted.short random all news
   pub exchanged : IsExchanged made saw swap at now
   pub says : ConfirmedTold told wanted.short random news
+  pub reports : y.report ≡ first_table news (record x.report { frames = lines_of y.driver })
+
+-- the table of the first file is read, or none is reported if it cannot be
+abbrev pub NotesFirst : {F : Type 0} → (F → Look → Type 0) → F → List (String Global) → Report
+    → Report → Type 0
+NotesFirst saw stores [] before after = after ≡ before
+NotesFirst saw stores (name ∷ more) before after =
+    (after ≡ before)
+    ⊎ ((kept : Kept)
+    × saw stores (Read (string_bytes name) kept)
+    × (after ≡ first_table (kept ∷ []) before))
 
 -- so it is if no exchange of an earlier call was brought to its end; else that one is confirmed
 abbrev pub IsReplacedAfter : {F K R W : Type 0} (is_up is_sound : K → Type 0)
     (holds : K → List Record → Type 0) (kept_of : K → Kept) (block_of : K → Block)
     → (F → F → Call → Type 0) → (F → Look → Type 0) → (F → Seen → K → Type 0)
     → (R → Option (List ℕ)) → (W → Option (List ℕ)) → (Said → Type 0) → Replacement
-    → List (String Global) → ℕ → Option Swap → F → F → DriverLink R W → DriverLink R W → Type 0
+    → List (String Global) → List (String Global) → ℕ → Option Swap → F → F → Session R W
+    → Session R W → Type 0
 IsReplacedAfter is_up is_sound holds kept_of block_of made saw opens remaining contents told wanted
-    names random None was now x y =
+    records names random None was now x y =
     HasReplacedAnew is_up is_sound holds kept_of block_of made saw opens remaining contents told
     wanted names random was now x y
 IsReplacedAfter is_up is_sound holds kept_of block_of made saw opens remaining contents told wanted
-    names random (Some swap) was now x y =
+    records names random (Some swap) was now x y =
     (now ≡ was)
     × IsConfirmed saw told wanted.short wanted.missing.items was (names_of swap) random
-    (talk_of remaining contents x) (talk_of remaining contents y)
+    (talk_of remaining contents x.driver) (talk_of remaining contents y.driver)
+    × NotesFirst saw was records (record x.report { frames = lines_of y.driver }) y.report
 
 -- WHAT A CALL PUTS that ended well, with the new gear that was heard. The files of these records
 -- are apart where they lie; each exchange that an earlier call has begun is brought to its end, or
@@ -380,7 +422,7 @@ abbrev pub HasReplaced : {F K R W : Type 0} (is_up is_sound : K → Type 0)
     (holds : K → List Record → Type 0) (kept_of : K → Kept) (block_of : K → Block)
     → (F → F → Call → Type 0) → (F → Look → Type 0) → (F → Seen → K → Type 0)
     → (R → Option (List ℕ)) → (W → Option (List ℕ)) → (Said → Type 0) → Replacement
-    → List (String Global) → ℕ → F → F → DriverLink R W → DriverLink R W → Type 0
+    → List (String Global) → ℕ → F → F → Session R W → Session R W → Type 0
 HasReplaced {F = F} is_up is_sound holds kept_of block_of made saw opens remaining contents told
     wanted records random was now x y =
     (names : List (String Global))
@@ -390,64 +432,98 @@ HasReplaced {F = F} is_up is_sound holds kept_of block_of made saw opens remaini
     × AreApart names
     × AreFinished made saw told wanted.short names was at earlier
     × IsReplacedAfter is_up is_sound holds kept_of block_of made saw opens remaining contents told
-    wanted names random earlier at now x y
+    wanted records names random earlier at now x y
 
 -- WHAT A CALL PUTS THAT FAILED: nothing; or, with the same files and once each earlier exchange was
--- brought to its end, a beginning of the above. Or all of it was put, and the files could not be
--- exchanged.
-abbrev pub FailsAfter : {F K R W : Type 0} (is_up is_sound : K → Type 0)
+-- brought to its end, a beginning of the above, for what it answers. Or all of it was put, and the
+-- files could not be closed, or were exchanged in part.
+abbrev pub IsLeftAt : {F : Type 0} (made began : F → F → Call → Type 0) → (F → Look → Type 0)
+    → DueSwap → F → F → Type 0
+IsLeftAt made began saw due at now =
+    (now ≡ at) ⊎ IsExchangedInPart made began saw due.swap at now
+
+abbrev pub FailsSo : {F K R W : Type 0} (is_up is_sound : K → Type 0)
     (holds : K → List Record → Type 0) (kept_of : K → Kept) (block_of : K → Block)
     → (F → F → Call → Type 0) → (F → Look → Type 0) → (F → Seen → K → Type 0)
     → (R → Option (List ℕ)) → (W → Option (List ℕ)) → (Said → Type 0) → Replacement
-    → List (String Global) → Failure → Option Swap → F → DriverLink R W → DriverLink R W → Type 0
-FailsAfter {F = F} is_up is_sound holds kept_of block_of made saw opens remaining contents told
-    wanted names failure None was x y =
+    → List (String Global) → List Kept → Failure → F → Session R W → Session R W → Type 0
+FailsSo is_up is_sound holds kept_of block_of made saw opens remaining contents told wanted names
+    all failure was x y =
+    ((y.driver ≡ x.driver) × (y.report ≡ record x.report { frames = lines_of y.driver }))
+    ⊎ ((after : Report)
+    × HasNotReplacedSo is_up is_sound holds kept_of block_of made saw opens remaining contents told
+    wanted names all failure was x.report after x.driver y.driver
+    × (y.report ≡ record after { frames = lines_of y.driver }))
+
+abbrev pub FailsAfter : {F K R W : Type 0} (is_up is_sound : K → Type 0)
+    (holds : K → List Record → Type 0) (kept_of : K → Kept) (block_of : K → Block)
+    (made began : F → F → Call → Type 0)
+    → (F → Look → Type 0) → (F → Seen → K → Type 0)
+    → (R → Option (List ℕ)) → (W → Option (List ℕ)) → (Said → Type 0) → Replacement
+    → List (String Global) → Failure → Option Swap → F → F → Session R W → Session R W → Type 0
+FailsAfter {F = F} is_up is_sound holds kept_of block_of made began saw opens remaining contents
+    told wanted names failure None was now x y =
     (all : List Kept)
     × AreRead saw was names [] all
     × AreUnannounced saw was names
-    × (((failed : Failure)
-    × HasNotReplacedSo is_up is_sound holds kept_of block_of made saw opens remaining contents told
-    wanted names all failed was x y)
-    ⊎ ((news : List Kept)
-    × (random : ℕ)
+    × (FailsSo is_up is_sound holds kept_of block_of made saw opens remaining contents told wanted
+    names all failure was x y
+    ⊎ ((due : DueSwap)
     × (at : F)
+    × IsDue saw at wanted.short names all due
     × HasReplacedSo is_up is_sound holds kept_of block_of made saw opens remaining contents told
-    wanted names all news random was at x y))
-FailsAfter is_up is_sound holds kept_of block_of made saw opens remaining contents told wanted names
-    failure (Some swap) was x y =
-    IsNotConfirmedBy saw wanted.short wanted.missing.items was (names_of swap) failure
-    (talk_of remaining contents x) (talk_of remaining contents y)
+    wanted names all due.news.items (confirmed_random due.confirmed) was at x.driver y.driver
+    × IsLeftAt made began saw due at now
+    × (y.report ≡ record x.report { frames = lines_of y.driver })))
+FailsAfter is_up is_sound holds kept_of block_of made began saw opens remaining contents told wanted
+    names failure (Some swap) was now x y =
+    (now ≡ was)
+    × IsNotConfirmedBy saw remaining contents wanted.short wanted.missing.items was (names_of swap)
+    failure x y
+
+-- Nothing is put if the files cannot be told apart, an earlier exchange fails, or they are not had.
+abbrev pub StopsBefore : {F : Type 0} (made began : F → F → Call → Type 0) → (F → Look → Type 0)
+    → (Said → Type 0) → ℕ → List (String Global) → F → F → Type 0
+StopsBefore {F = F} made began saw told a records was now =
+    (now ≡ was)
+    ⊎ ((names : List (String Global))
+    × AreAtPlaces saw was records [] names
+    × AreApart names
+    × (AreFinishedInPart made began saw told a names was now
+    ⊎ ((earlier : Option Swap) × AreFinished made saw told a names was now earlier)))
 
 abbrev pub HasNotReplaced : {F K R W : Type 0} (is_up is_sound : K → Type 0)
     (holds : K → List Record → Type 0) (kept_of : K → Kept) (block_of : K → Block)
-    → (F → F → Call → Type 0) → (F → Look → Type 0) → (F → Seen → K → Type 0)
+    (made began : F → F → Call → Type 0)
+    → (F → Look → Type 0) → (F → Seen → K → Type 0)
     → (R → Option (List ℕ)) → (W → Option (List ℕ)) → (Said → Type 0) → Replacement
-    → List (String Global) → Failure → F → DriverLink R W → DriverLink R W → Type 0
-HasNotReplaced {F = F} is_up is_sound holds kept_of block_of made saw opens remaining contents told
-    wanted records failure was x y =
-    (y ≡ x)
+    → List (String Global) → Failure → F → F → Session R W → Session R W → Type 0
+HasNotReplaced {F = F} is_up is_sound holds kept_of block_of made began saw opens remaining contents
+    told wanted records failure was now x y =
+    ((y ≡ x) × StopsBefore made began saw told wanted.short records was now)
     ⊎ ((names : List (String Global))
     × (at : F)
     × (earlier : Option Swap)
     × AreAtPlaces saw was records [] names
     × AreApart names
     × AreFinished made saw told wanted.short names was at earlier
-    × FailsAfter is_up is_sound holds kept_of block_of made saw opens remaining contents told wanted
-    names failure earlier at x y)
+    × FailsAfter is_up is_sound holds kept_of block_of made began saw opens remaining contents told
+    wanted names failure earlier at now x y)
 
 -- A REPLACEMENT ENDS SO, well or not
 abbrev pub IsReplacement : {F K R W : Type 0} (is_up is_sound : K → Type 0)
     (holds : K → List Record → Type 0) (kept_of : K → Kept) (block_of : K → Block)
-    → (F → F → Call → Type 0) → (F → Look → Type 0) → (F → Seen → K → Type 0)
+    (made began : F → F → Call → Type 0)
+    → (F → Look → Type 0) → (F → Seen → K → Type 0)
     → (R → Option (List ℕ)) → (W → Option (List ℕ)) → (Said → Type 0) → Replacement
-    → List (String Global) → F → F → DriverLink R W → DriverLink R W → Result (Unit {0}) Failure
+    → List (String Global) → F → F → Session R W → Session R W → Result (Unit {0}) Failure
     → Type 0
-IsReplacement is_up is_sound holds kept_of block_of made saw opens remaining contents told wanted
-    records was now x y (Ok done) =
+IsReplacement is_up is_sound holds kept_of block_of made began saw opens remaining contents told
+    wanted records was now x y (Ok done) =
     (random : ℕ)
     × HasReplaced is_up is_sound holds kept_of block_of made saw opens remaining contents told
     wanted records random was now x y
-IsReplacement is_up is_sound holds kept_of block_of made saw opens remaining contents told wanted
-    records was now x y (Err failure) =
-    HasNotReplaced is_up is_sound holds kept_of block_of made saw opens remaining contents told
-    wanted records failure was x y
+IsReplacement is_up is_sound holds kept_of block_of made began saw opens remaining contents told
+    wanted records was now x y (Err failure) =
+    HasNotReplaced is_up is_sound holds kept_of block_of made began saw opens remaining contents
+    told wanted records failure was now x y

@@ -7,7 +7,7 @@ use Rattle.dali_replacement.specs.Swapping.{address_of}
 use Rattle.dali_commission_said.specs.declared.said.Said.{Said}
 use Rattle.dali_commission_stores.specs.Calls.{Call, Look}
 use Rattle.dali_commission_stores.specs.Seen.{IsFound}
-use Rattle.dali_commission_stores.specs.Settled.{IsSettled, IsAlone}
+use Rattle.dali_commission_stores.specs.Settled.{IsSettled, IsSettledInPart, IsAlone}
 use Rattle.dali_commission_replaced.specs.Tellings.{FinishTold}
 
 -- A SWAP OF AN EARLIER CALL IS BROUGHT TO ITS END, or taken back, and which is said. It is answered
@@ -48,3 +48,22 @@ AreFinished made saw told a (name ∷ more) x y answer =
     × IsFoundSo made saw told a (string_bytes name) x z first
     × AreFinished made saw told a more z y later
     × (answer ≡ last_of first later)
+
+-- AN EXCHANGE THAT FAILS is done in part, and none of those behind it is looked for
+abbrev pub IsFoundInPart : {F : Type 0} (made began : F → F → Call → Type 0) → (F → Look → Type 0)
+    → List ℕ → F → F → Type 0
+IsFoundInPart made began saw name x y =
+    (x ≡ y)
+    ⊎ ((swap : Swap)
+    × IsFound saw x name (Some swap)
+    × IsSettledInPart made began saw swap x y)
+
+abbrev pub AreFinishedInPart : {F : Type 0} (made began : F → F → Call → Type 0)
+    → (F → Look → Type 0) → (Said → Type 0) → ℕ → List (String Global) → F → F → Type 0
+AreFinishedInPart made began saw told a [] x y = ⊥
+AreFinishedInPart made began saw told a (name ∷ more) x y =
+    IsFoundInPart made began saw (string_bytes name) x y
+    ⊎ ((z : _)
+    × (first : Option Swap)
+    × IsFoundSo made saw told a (string_bytes name) x z first
+    × AreFinishedInPart made began saw told a more z y)

@@ -7,12 +7,12 @@ use Rattle.dali_replacement.specs.declared.come.Come.{Come}
 use Rattle.dali_replacement.specs.declared.tables.Giver.TheVariants.{One}
 use Rattle.dali_replacement.specs.Tables.{giver_from, IsComplete}
 use Rattle.dali_replacement.specs.Permit.{confirmed_at, confirmed_random}
-use Rattle.dali_replacement.specs.Swapping.{address_of, texts_of}
+use Rattle.dali_replacement.specs.Swapping.{address_of, number_of, texts_of}
 use Rattle.dali_commission_said.specs.declared.said.Said.{Said}
 use Rattle.dali_commission_stores.specs.Calls.{Call, Look}
 use Rattle.dali_commission_stores.specs.Calls as look
-use Rattle.dali_commission_stores.specs.Keeping.{IsAside}
-use Rattle.dali_commission_stores.specs.Seen.{ComeSo, IsFound}
+use Rattle.dali_commission_stores.specs.Keeping.{IsAside, AreFree}
+use Rattle.dali_commission_stores.specs.Seen.{ComeSo, IsFound, LiesOnLine}
 use Rattle.dali_commission_stores.specs.Settling.{new_at}
 use Rattle.dali_commission_replaced.specs.declared.replacing.DueSwap.{DueSwap}
 use Rattle.dali_commission_tasks.specs.declared.tasks.Replacement.{Replacement}
@@ -27,13 +27,15 @@ IsGiver wanted all number =
     × (length all ≢ 1 → giver_from 0 wanted.short all ≡ One number)
 
 -- A SWAP IS DUE only of these files, with new tables that are complete, and with the new gear that
--- was heard
-abbrev pub IsDue : ℕ → List (String Global) → List Kept → DueSwap → Type 0
-IsDue a names all due =
+-- was heard; the old files are to be kept where nothing lies
+abbrev pub IsDue : {F : Type 0} → (F → Look → Type 0) → F → ℕ → List (String Global) → List Kept
+    → DueSwap → Type 0
+IsDue saw x a names all due =
     (address_of due.swap ≡ a)
     × (confirmed_at due.confirmed ≡ a)
     × (texts_of due.swap ≡ map string_bytes names)
     × ((n : ℕ) × IsComplete n a (confirmed_random due.confirmed) all due.news.items)
+    × AreFree saw x [] (number_of due.swap) names
 
 -- NEW FILES ARE PUT ASIDE, that of each name; in a replacement if it is to begin again
 abbrev pub AreAside : {F : Type 0} → (F → F → Call → Type 0) → (F → Look → Type 0)
@@ -53,7 +55,7 @@ abbrev pub AreAtPlaces : {F : Type 0} → (F → Look → Type 0) → F → List
 AreAtPlaces saw x [] before after = after ≡ before
 AreAtPlaces saw x (name ∷ more) before after =
     (place : String Global)
-    × saw x (look.Lies (string_bytes name) (string_bytes place))
+    × LiesOnLine saw x (string_bytes name) (string_bytes place)
     × AreAtPlaces saw x more (before ++ place ∷ []) after
 
 -- FILES ARE APART: none is another one, and none lies where another one's new file is to lie

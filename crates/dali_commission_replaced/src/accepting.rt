@@ -1,12 +1,12 @@
 //! `replace --accept`: the luminaire that answers at a short address takes the place of the one in the tables.
 
-ghost use Rattle.std.specs.Prelude.{◌≡◌, ◌⊎◌, IfOk, IfErr};
+ghost use Rattle.std.specs.Prelude.{◌≡◌, ◌⊎◌, ℕ, IfOk, IfErr, OnOk};
 ghost use Rattle.dali_script.specs.declared.records.Record.TheVariants.{Enrol};
 ghost use Rattle.dali_script.specs.Records.{with_record};
 ghost use Rattle.dali_commissioning.specs.declared.census.Reply.TheVariants as heard;
 ghost use Rattle.dali_commissioning.specs.Census.{IsAnswered};
-ghost use Rattle.dali_commissioning.specs.Drivers.{talk_of};
-ghost use Rattle.dali_replacement.specs.Permit.{confirmed_at, confirmed_random};
+ghost use Rattle.dali_commissioning.specs.Drivers.{talk_of, has_heard};
+ghost use Rattle.dali_replacement.specs.Permit.{confirmed_random};
 ghost use Rattle.dali_commission_replaced.specs.Accepting.{IsNotAlone, HasAcceptedSo, HasNotAcceptedSo};
 ghost use Rattle.dali_commission_replaced.specs.Accepting.{HasAccepted, HasNotAccepted};
 ghost use Rattle.dali_commission_replaced.specs.Replacing.{IsDue};
@@ -14,14 +14,15 @@ ghost use Rattle.dali_commission_replaced.specs.Replacing.{IsDue};
 use crate::confirming::Asking;
 use crate::finishing::{confirms, exchanged};
 use crate::replacing::{
-    DueSwap, Replacing, are_apart, are_unannounced, is_behind, places_of, put_aside_if, table,
+    DueSwap, Replacing, are_apart, are_unannounced, is_behind, note_first, note_read, places_of,
+    put_aside_if, table,
 };
-use dali_commission_said::{Failure, Manner, Report, Voice, failure_of, say_refused};
+use dali_commission_said::{Failure, Manner, Report, Session, Voice, failure_of, say_refused};
 use dali_commission_stores::{Holder, Stores, exchange, read_all, say_kept};
 use dali_commission_tasks::Replacement;
 use dali_commissioning::{DriverLink, Reply, ask};
 use dali_frame::{Random24, Short};
-use dali_replacement::{Come, Confirmed, ReplaceRefusal};
+use dali_replacement::{Come, ReplaceRefusal};
 use dali_script::{Kept, Record};
 use std::io::{Read, Write};
 
@@ -111,48 +112,50 @@ impl<S: Voice + AllocGlobal> Accepting<'_, S> {
 
     /// Hears the luminaire and all others. The swap that is due then.
     fn accepts<F: Stores, R: Read, W: Write>(
-        &mut self,
+        &self,
         stores: &mut F,
         driver: &mut DriverLink<R, W>,
         all: &[Kept],
+        report: &mut Report,
     ) -> Result<DueSwap, Failure>
-        ensures due { IfOk result (IsDue self.old.by.asking.now.wanted.now.short self.old.by.names.now all.now) }
+        ensures due { IfOk result (IsDue F.saw stores.new self.now.by.asking.now.wanted.now.short
+            self.now.by.names.now all.now) }
         ensures accepted { IfOk result (λ due. HasAcceptedSo F.Open.kept F.Open.block F.made F.saw F.opens
-            (S.told self.old.by.asking.now.system.now) self.old.by.asking.now.wanted.now self.old.by.names.now all.now
+            (S.told self.now.by.asking.now.system.now) self.now.by.asking.now.wanted.now self.now.by.names.now all.now
             due.news.items (confirmed_random due.confirmed) stores.old stores.new
             (talk_of R.remaining W.contents driver.old) (talk_of R.remaining W.contents driver.new)) }
-        ensures failed { IfErr result (λ failure. (driver.new ≡ driver.old)
+        ensures noted { IfOk result (λ _. report.new ≡ report.old) }
+        ensures failed { IfErr result (λ failure. ((driver.new ≡ driver.old) × (report.new ≡ report.old))
             ⊎ HasNotAcceptedSo F.Open.kept F.Open.block F.made F.saw F.opens
-            (S.told self.old.by.asking.now.system.now) self.old.by.asking.now.wanted.now self.old.by.names.now all.now
-            failure stores.old
+            (S.told self.now.by.asking.now.system.now) self.now.by.asking.now.wanted.now self.now.by.names.now all.now
+            (has_heard driver.new) failure stores.old report.old report.new
             (talk_of R.remaining W.contents driver.old) (talk_of R.remaining W.contents driver.new)) }
     {
         let asking = self.by.asking;
         put_aside_if(asking.wanted.is_again, asking.system, stores, self.by.names)?;
         let rest = table(asking.wanted, all)?;
         let random = there(asking, driver, all)?;
-        let others = asking.others_there(driver, Come::Given(random), rest, self.by.report)?;
+        let others = asking.others_there(driver, Come::Given(random), rest, report)?;
         let first = beside(asking, others.table(), random)?;
         self.may_go_on(stores, all, random)?;
         self.by.due(stores, driver, all, others, &first)
     }
 }
 
-impl<S: Voice + AllocGlobal, F: Stores, R: Read, W: Write> Holder<F, DriverLink<R, W>>
+impl<S: Voice + AllocGlobal, F: Stores, R: Read, W: Write> Holder<F, Session<R, W>>
     for Accepting<'_, S> {
     type Due = DueSwap;
 
     type Out = DueSwap;
 
-    ghost use Rattle.std.specs.Prelude.{◌≡◌};
     ghost use Rattle.dali_commission_replaced.specs.Accepting.{AcceptDues};
-    ghost use Rattle.dali_commission_stores.specs.Settled.{IsExchanged};
+    ghost use Rattle.dali_commission_replaced.specs.Due.{EndsDue};
 
     ghost dues = { λ accepting all was at x y result. AcceptDues F.Open.kept F.Open.block F.made F.saw F.opens
         R.remaining W.contents (S.told accepting.by.asking.now.system.now) accepting.by.asking.now.wanted.now
         accepting.by.names.now all was at x y result };
 
-    ghost ends = { λ _ from to due out. IsExchanged F.made F.saw due.swap from to × (out ≡ due) };
+    ghost ends = { λ _ from to due result. EndsDue F.made F.began F.saw from to due result };
 
     fn refused(&self, name: &str, failure: Failure) -> Failure {
         say_refused(self.by.asking.system, name, failure)
@@ -162,12 +165,12 @@ impl<S: Voice + AllocGlobal, F: Stores, R: Read, W: Write> Holder<F, DriverLink<
         &mut self,
         stores: &mut F,
         all: &[Kept],
-        driver: &mut DriverLink<R, W>,
+        session: &mut Session<R, W>,
     ) -> Result<DueSwap, Failure> {
         let system = self.by.asking.system;
         are_unannounced(system.alloc(), stores, self.by.names)?;
-        let heard = self.accepts(stores, driver, all);
-        self.by.report.note_lines(system, driver, heard)
+        let heard = self.accepts(stores, &mut session.driver, all, &mut session.report);
+        session.report.note_lines(system, &session.driver, heard)
     }
 
     /// Exchanges the files.
@@ -178,27 +181,25 @@ impl<S: Voice + AllocGlobal, F: Stores, R: Read, W: Write> Holder<F, DriverLink<
 }
 
 /// Lets the luminaire that answers at a short address take the place of the one that all records of the site have
-/// there; or finishes what an earlier call has begun. No frame changes any gear. The gear that was heard there.
+/// there; or finishes what an earlier call has begun. No frame changes any gear.
 pub fn accepts<S, F, R, W>(
     system: &S,
     stores: &mut F,
-    driver: &mut DriverLink<R, W>,
+    session: &mut Session<R, W>,
     manner: Manner,
     records: &[String],
     wanted: &Replacement,
-    report: &mut Report,
-) -> Result<Confirmed, Failure>
+) -> Result<(), Failure>
 where
     S: Voice + AllocGlobal,
     F: Stores,
     R: Read,
     W: Write,
-    ensures short { IfOk result (λ seen. confirmed_at seen ≡ wanted.now.short) }
-    ensures accepted { IfOk result (λ seen. HasAccepted F.Open.kept F.Open.block F.made F.saw F.opens R.remaining
-        W.contents (S.told system.now) wanted.now records.now (confirmed_random seen) stores.old stores.new
-        driver.old driver.new) }
-    ensures failed { IfErr result (λ failure. HasNotAccepted F.Open.kept F.Open.block F.made F.saw F.opens R.remaining
-        W.contents (S.told system.now) wanted.now records.now failure stores.old driver.old driver.new) }
+    ensures accepted { OnOk result ((random : ℕ) × HasAccepted F.Open.kept F.Open.block F.made F.saw F.opens R.remaining
+        W.contents (S.told system.now) wanted.now records.now random stores.old stores.new session.old session.new) }
+    ensures failed { IfErr result (λ failure. HasNotAccepted F.Open.kept F.Open.block F.made F.began F.saw F.opens
+        R.remaining W.contents (S.told system.now) wanted.now records.now failure stores.old stores.new
+        session.old session.new) }
 {
     let asking = Asking {
         system,
@@ -210,17 +211,19 @@ where
         return Err(asking.refusal(ReplaceRefusal::SameFile));
     }
     if let Some(swap) = exchanged(system, stores, &names, wanted.short)? {
-        return confirms(&asking, stores, driver, &swap, report);
+        let _heard = confirms(&asking, stores, session, &swap)?;
+        note_read(system.alloc(), stores, records, &mut session.report);
+        return Ok(());
     }
     let mut copies = Vec::new(system.alloc());
     read_all(system, stores, &names, &mut copies)?;
     let by = Replacing {
         asking: &asking,
         names: &names,
-        report,
     };
-    let done = stores.hold(system.alloc(), &names, Accepting { by }, driver)?;
+    let done = stores.hold(system.alloc(), &names, Accepting { by }, session)?;
     asking.say_confirmed(&done.confirmed, &done.news);
     let _ = say_kept(system, done.swap.names(), done.swap.number());
-    Ok(done.confirmed)
+    note_first(&done.news, &mut session.report);
+    Ok(())
 }

@@ -1,16 +1,17 @@
 //! `replace` asks the bus: what is there before the address is given, and before anything is said of it.
 
-ghost use Rattle.std.specs.Prelude.{◌≡◌, ℕ, IfOk, IfErr};
+ghost use Rattle.std.specs.Prelude.{◌≡◌, ◌≤◌, ℕ, true, length, IfOk, IfErr};
 ghost use Rattle.dali_commissioning.specs.declared.census.Reply.TheVariants as heard;
 ghost use Rattle.dali_commissioning.specs.Census.{IsAnswered};
-ghost use Rattle.dali_commissioning.specs.Drivers.{talk_of, lines_of};
+ghost use Rattle.dali_commissioning.specs.Drivers.{talk_of, has_heard, lines_of};
 ghost use Rattle.dali_replacement.specs.Permit.{others_at, others_come, others_table, confirmed_at, confirmed_random};
 ghost use Rattle.dali_replacement.specs.Permit.{confirmed_table, IsNotConfirmed};
+ghost use Rattle.dali_replacement.specs.Standing.{places_of};
 ghost use Rattle.dali_replacement.specs.declared.refusal.ReplaceFault.{ReplaceFault};
 ghost use Rattle.dali_replacement.specs.Tables.{AreGiven};
 ghost use Rattle.dali_commission_said.specs.Failures.{fault_of};
 ghost use Rattle.dali_commission_replaced.specs.Asking.{HasAskedOthers};
-ghost use Rattle.dali_commission_replaced.specs.Cut.{HasNotAskedOthers, IsNotInFirst};
+ghost use Rattle.dali_commission_replaced.specs.Cut.{HasNotAskedOthers, IsMissing, IsNotInFirst};
 ghost use Rattle.dali_commission_replaced.specs.Tellings.{ConfirmedTold, gear_in};
 
 use arrayvec::ArrayVec;
@@ -67,7 +68,8 @@ impl<S: Voice> Asking<'_, S> {
 
     /// Says where others than recorded stand.
     fn say_missing(&self, standing: &Standing, report: &mut Report) -> Failure
-        ensures { result ≡ Failure.NotReplaced self.now.wanted.now.short ReplaceRefusal.NotThere }
+        requires { length (places_of standing.now) ≤ 64 }
+        ensures { IsMissing true self.now.wanted.now.short (places_of standing.now) result report.old report.new }
     {
         report.note_wrong(standing.places());
         let mut wrong = ArrayVec::new();
@@ -91,8 +93,9 @@ impl<S: Voice> Asking<'_, S> {
         ensures short { IfOk result (λ others. others_at others ≡ self.now.wanted.now.short) }
         ensures come { IfOk result (λ others. others_come others ≡ come) }
         ensures table { IfOk result (λ others. others_table others ≡ table) }
-        ensures failed { IfErr result (λ failure. HasNotAskedOthers self.now.wanted.now.short come table
-            self.now.wanted.now.missing.items failure
+        ensures noted { IfOk result (λ _. report.new ≡ report.old) }
+        ensures failed { IfErr result (λ failure. HasNotAskedOthers (has_heard driver.new)
+            self.now.wanted.now.short come table self.now.wanted.now.missing.items failure report.old report.new
             (talk_of R.remaining W.contents driver.old) (talk_of R.remaining W.contents driver.new)) }
     {
         if self.manner != Manner::Quiet {

@@ -1,19 +1,20 @@
 //! An exchange of files that an earlier call has begun is brought to its end, and the bus is asked what is there.
 
-ghost use Rattle.std.specs.Prelude.{◌≡◌, ◌⊎◌, IfOk, IfErr, OnOk};
-ghost use Rattle.dali_commissioning.specs.Drivers.{talk_of};
+ghost use Rattle.std.specs.Prelude.{◌≡◌, ◌⊎◌, IfOk, IfErr, OnOk, OnErr};
+ghost use Rattle.dali_commissioning.specs.Drivers.{talk_of, has_heard, lines_of};
 ghost use Rattle.dali_replacement.specs.Permit.{confirmed_at, confirmed_random};
 ghost use Rattle.dali_replacement.specs.Swapping.{address_of, names_of};
 ghost use Rattle.dali_replacement.specs.Tables.{AreGiven};
 ghost use Rattle.dali_commission_said.specs.Failures.{although_exchanged};
-ghost use Rattle.dali_commission_stores.specs.Settled.{IsSettled, IsAlone};
+ghost use Rattle.dali_commission_stores.specs.Settled.{IsSettled, IsSettledInPart, IsAlone};
 ghost use Rattle.dali_commission_replaced.specs.Asking.{HasConfirmed, HasNotConfirmed, IsConfirmed};
 ghost use Rattle.dali_commission_replaced.specs.Asking.{IsNotConfirmedBy};
-ghost use Rattle.dali_commission_replaced.specs.Finishing.{IsFinished, IsFoundSo, AreFinished};
+ghost use Rattle.dali_commission_replaced.specs.Finishing.{IsFinished, IsFoundSo, IsFoundInPart, AreFinished};
+ghost use Rattle.dali_commission_replaced.specs.Finishing.{AreFinishedInPart};
 ghost use Rattle.dali_commission_replaced.specs.Tellings.{FinishTold};
 
 use crate::confirming::Asking;
-use dali_commission_said::{Failure, Report, Said, Voice, or_say, say};
+use dali_commission_said::{Failure, Report, Said, Session, Voice, or_say, say};
 use dali_commission_stores::{Stores, found, read_all, say_kept, settle};
 use dali_commissioning::DriverLink;
 use dali_frame::Short;
@@ -31,6 +32,7 @@ fn finishes<S: Voice + AllocGlobal, F: Stores>(
     ensures settled { IfOk result (IsSettled F.made F.saw swap.now stores.old stores.new) }
     ensures alone { OnOk result (IsAlone F.saw swap.now stores.old) }
     ensures told { IfOk result (λ is_done. FinishTold (S.told system.now) (address_of swap.now) is_done) }
+    ensures left { OnErr result (IsSettledInPart F.made F.began F.saw swap.now stores.old stores.new) }
 {
     let is_done = settle(system, stores, swap)?;
     if is_done {
@@ -49,7 +51,8 @@ fn finished<S: Voice + AllocGlobal, F: Stores>(
     swap: Swap,
     short: Short,
 ) -> Result<Option<Swap>, Failure>
-    ensures { IfOk result (IsFinished F.made F.saw (S.told system.now) short swap stores.old stores.new) }
+    ensures finished { IfOk result (IsFinished F.made F.saw (S.told system.now) short swap stores.old stores.new) }
+    ensures left { OnErr result (IsSettledInPart F.made F.began F.saw swap stores.old stores.new) }
 {
     if finishes(system, stores, &swap)? && swap.short() == short {
         Ok(Some(swap))
@@ -65,7 +68,8 @@ fn finishes_found<S: Voice + AllocGlobal, F: Stores>(
     name: &str,
     short: Short,
 ) -> Result<Option<Swap>, Failure>
-    ensures { IfOk result (IsFoundSo F.made F.saw (S.told system.now) short name.now stores.old stores.new) }
+    ensures finished { IfOk result (IsFoundSo F.made F.saw (S.told system.now) short name.now stores.old stores.new) }
+    ensures left { OnErr result (IsFoundInPart F.made F.began F.saw name.now stores.old stores.new) }
 {
     match or_say(system, name, found(system.alloc(), stores, name))? {
         Some(swap) => finished(system, stores, swap, short),
@@ -80,7 +84,10 @@ pub(crate) fn exchanged<S: Voice + AllocGlobal, F: Stores>(
     names: &[String],
     short: Short,
 ) -> Result<Option<Swap>, Failure>
-    ensures { IfOk result (AreFinished F.made F.saw (S.told system.now) short names.now stores.old stores.new) }
+    ensures finished { IfOk result (AreFinished F.made F.saw (S.told system.now) short names.now stores.old
+        stores.new) }
+    ensures left { OnErr result (AreFinishedInPart F.made F.began F.saw (S.told system.now) short names.now stores.old
+        stores.new) }
 {
     let [name, more @ ..] = names else {
         return Ok(None);
@@ -104,8 +111,9 @@ fn heard<S: Voice, R: Read, W: Write>(
         (talk_of R.remaining W.contents driver.old) (talk_of R.remaining W.contents driver.new)) }
     ensures given { IfOk result (λ seen. AreGiven asking.now.wanted.now.short (confirmed_random seen) tables.now) }
     ensures short { IfOk result (λ seen. confirmed_at seen ≡ asking.now.wanted.now.short) }
-    ensures failed { IfErr result (λ failure. HasNotConfirmed asking.now.wanted.now.short
-        asking.now.wanted.now.missing.items tables.now failure
+    ensures noted { IfOk result (λ _. report.new ≡ report.old) }
+    ensures failed { IfErr result (λ failure. HasNotConfirmed (has_heard driver.new) asking.now.wanted.now.short
+        asking.now.wanted.now.missing.items tables.now failure report.old report.new
         (talk_of R.remaining W.contents driver.old) (talk_of R.remaining W.contents driver.new)) }
 {
     let short = asking.wanted.short;
@@ -138,9 +146,8 @@ fn although_exchanged(failure: Failure) -> Failure
 pub(crate) fn confirms<S, F, R, W>(
     asking: &Asking<'_, S>,
     stores: &F,
-    driver: &mut DriverLink<R, W>,
+    session: &mut Session<R, W>,
     swap: &Swap,
-    report: &mut Report,
 ) -> Result<Confirmed, Failure>
 where
     S: Voice + AllocGlobal,
@@ -151,17 +158,18 @@ where
     ensures confirmed { IfOk result (λ seen. IsConfirmed F.saw (S.told asking.now.system.now)
         asking.now.wanted.now.short asking.now.wanted.now.missing.items stores.now (names_of swap.now)
         (confirmed_random seen)
-        (talk_of R.remaining W.contents driver.old) (talk_of R.remaining W.contents driver.new)) }
-    ensures failed { IfErr result (λ failure. (driver.new ≡ driver.old)
-        ⊎ IsNotConfirmedBy F.saw asking.now.wanted.now.short asking.now.wanted.now.missing.items stores.now
-        (names_of swap.now) failure
-        (talk_of R.remaining W.contents driver.old) (talk_of R.remaining W.contents driver.new)) }
+        (talk_of R.remaining W.contents session.old.driver) (talk_of R.remaining W.contents session.new.driver)) }
+    ensures noted { IfOk result (λ _. session.new.report
+        ≡ record session.old.report { frames = lines_of session.new.driver }) }
+    ensures failed { IfErr result (λ failure. (session.new ≡ session.old)
+        ⊎ IsNotConfirmedBy F.saw R.remaining W.contents asking.now.wanted.now.short
+        asking.now.wanted.now.missing.items stores.now (names_of swap.now) failure session.old session.new) }
 {
     let system = asking.system;
     let mut tables = Vec::new(system.alloc());
     read_all(system, stores, swap.names(), &mut tables)?;
-    let heard = heard(asking, driver, &tables, report);
-    match report.note_lines(system, driver, heard) {
+    let heard = heard(asking, &mut session.driver, &tables, &mut session.report);
+    match session.report.note_lines(system, &session.driver, heard) {
         Ok(confirmed) => {
             asking.say_confirmed(&confirmed, &tables);
             Ok(confirmed)

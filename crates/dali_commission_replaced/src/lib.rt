@@ -1,4 +1,4 @@
-//! `replace`: a new luminaire gets the short address of one that is gone, or has it already.
+//! `replace`: a new luminaire gets the short address of one that is gone; `accept`: it has the address already.
 #![tactic(auto)]
 
 mod accepting;
@@ -7,4 +7,4 @@ mod finishing;
 mod replacing;
 
 pub use accepting::accepts;
-pub use replacing::{note_first, replaces};
+pub use replacing::replaces;

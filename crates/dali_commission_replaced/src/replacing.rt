@@ -1,16 +1,14 @@
 //! `replace`: a new luminaire gets the short address of one that is gone.
 
 ghost use Rattle.std.specs.Prelude.{◌≡◌, ◌↔◌, ◌⊎◌, ℕ, List, [], ◌++◌, map, true, IsTrue, IfOk, IfErr, OnOk};
-ghost use Rattle.std.specs.Prelude.{string_bytes, IfSome, MatchOption, Ok, Err};
+ghost use Rattle.std.specs.Prelude.{string_bytes, IfSome, Ok, Err};
 ghost use Rattle.dali_script.specs.Records.{HasAddress};
-ghost use Rattle.dali_replacement.specs.Permit.{confirmed_at, others_at};
+ghost use Rattle.dali_replacement.specs.Permit.{others_at};
 ghost use Rattle.dali_replacement.specs.Tables.{IsGathered, Lacks};
-ghost use Rattle.dali_commission_stores.specs.Calls.{AreMade, Lies, Read};
+ghost use Rattle.dali_commission_stores.specs.Calls.{AreMade, Read};
 ghost use Rattle.dali_commission_replaced.specs.Replacing.{IsAnywhere, IsGiver, IsDue, AreAside, AreAsideIf, HasCome};
 ghost use Rattle.dali_commission_replaced.specs.Replacing.{AreAtPlaces, IsApart, IsApartFrom, AreApart};
 ghost use Rattle.dali_commission_replaced.specs.Replacing.{AreUnannounced};
-ghost use Rattle.dali_commission_said.specs.Reports.{own_rows};
-ghost use Rattle.dali_commission_said.specs.Tables.{rows};
 ghost use Rattle.dali_commission_stores.specs.Seen.{ComeSo};
 ghost use Rattle.dali_commission_stores.specs.Settling.{new_at};
 ghost use Rattle.dali_commissioning.specs.declared.census.Reply.TheVariants as heard;
@@ -21,17 +19,18 @@ ghost use Rattle.dali_commission_stores.specs.Lent.{IsLent, IsOpened, lent_calls
 ghost use Rattle.dali_commission_replaced.specs.Asking.{given_as, GivesSo, is_given, IsGivenIn, GivesFirst, GivesNone};
 ghost use Rattle.dali_commission_replaced.specs.Asking.{IsNamed, HasNotGivenFirst, AreRenewed, IsNotDue};
 ghost use Rattle.dali_commission_replaced.specs.Asking.{HasReplacedSo, HasNotReplacedSo, HasReplaced, HasNotReplaced};
+ghost use Rattle.dali_commission_replaced.specs.Asking.{first_table, NotesFirst};
 
 use crate::confirming::Asking;
 use crate::finishing::{confirms, exchanged};
 use dali_commission_asked::ask_at_last;
 use dali_commission_said::{
-    Failure, Manner, Progress, REFUSED, Report, Said, StoreFault, Voice, add, ended_as, ended_said,
-    failure_of, or_say, say, say_all, say_refused,
+    Failure, Manner, Progress, REFUSED, Report, Said, Session, Voice, add, ended_as, ended_said,
+    failure_of, or_say, own_rows, say, say_all, say_refused,
 };
 use dali_commission_stores::{
     Borrower, Filling, Holder, Reading, Stores, exchange, found, free_number, kept, lend,
-    lend_copy, put_one_aside, read, read_all, say_kept,
+    lend_copy, place_of, put_one_aside, read, read_all, say_kept,
 };
 use dali_commission_tasks::Replacement;
 use dali_commissioning::{DriverLink, Ended, outside};
@@ -195,7 +194,6 @@ pub(crate) struct Replacing<'a, S> {
     pub asking: &'a Asking<'a, S>,
     /// Where the files lie.
     pub names: &'a [String],
-    pub report: &'a mut Report,
 }
 
 /// Whether another one's new records have come no further than the giver's.
@@ -398,7 +396,7 @@ impl<S: Voice + AllocGlobal> Replacing<'_, S> {
         others: OthersThere,
         first: &Kept,
     ) -> Result<DueSwap, Failure>
-        ensures due { IfOk result (IsDue (others_at others) self.now.names.now all.now) }
+        ensures due { IfOk result (IsDue F.saw stores.new (others_at others) self.now.names.now all.now) }
         ensures last { IfOk result (λ due. IsAnswered (others_at others)
             (heard.Random (confirmed_random due.confirmed)) (talk_of R.remaining W.contents driver.old)
             (talk_of R.remaining W.contents driver.new)) }
@@ -426,27 +424,30 @@ impl<S: Voice + AllocGlobal> Replacing<'_, S> {
 
     /// Gives the short address. The swap that is due then.
     fn gives<F: Stores, R: Read, W: Write>(
-        &mut self,
+        &self,
         stores: &mut F,
         driver: &mut DriverLink<R, W>,
         all: &[Kept],
+        report: &mut Report,
     ) -> Result<DueSwap, Failure>
-        ensures due { IfOk result (IsDue self.old.asking.now.wanted.now.short self.old.names.now all.now) }
+        ensures due { IfOk result (IsDue F.saw stores.new self.now.asking.now.wanted.now.short self.now.names.now
+            all.now) }
         ensures replaced { IfOk result (λ due. HasReplacedSo F.Open.is_up F.Open.is_sound F.Open.holds F.Open.kept
             F.Open.block F.made
-            F.saw F.opens R.remaining W.contents (S.told self.old.asking.now.system.now) self.old.asking.now.wanted.now
-            self.old.names.now all.now due.news.items (confirmed_random due.confirmed) stores.old stores.new
+            F.saw F.opens R.remaining W.contents (S.told self.now.asking.now.system.now) self.now.asking.now.wanted.now
+            self.now.names.now all.now due.news.items (confirmed_random due.confirmed) stores.old stores.new
             driver.old driver.new) }
-        ensures failed { IfErr result (λ failure. (driver.new ≡ driver.old)
+        ensures noted { IfOk result (λ _. report.new ≡ report.old) }
+        ensures failed { IfErr result (λ failure. ((driver.new ≡ driver.old) × (report.new ≡ report.old))
             ⊎ HasNotReplacedSo F.Open.is_up F.Open.is_sound F.Open.holds F.Open.kept F.Open.block F.made
-            F.saw F.opens R.remaining W.contents (S.told self.old.asking.now.system.now) self.old.asking.now.wanted.now
-            self.old.names.now all.now failure stores.old driver.old driver.new) }
+            F.saw F.opens R.remaining W.contents (S.told self.now.asking.now.system.now) self.now.asking.now.wanted.now
+            self.now.names.now all.now failure stores.old report.old report.new driver.old driver.new) }
     {
         let asking = self.asking;
         put_aside_if(asking.wanted.is_again, asking.system, stores, self.names)?;
         let plan = self.plan(stores, all)?;
         let giver = plan.giver;
-        let others = asking.others_there(driver, plan.come, plan.table, self.report)?;
+        let others = asking.others_there(driver, plan.come, plan.table, report)?;
         let first = self.first(stores, driver, giver, &others)?;
         // What else the giver's new file has reserved tells a later call that the address is given there.
         if has_address(&first, asking.wanted.short) {
@@ -538,21 +539,19 @@ pub(crate) fn are_unannounced<F: Stores>(
     }
 }
 
-impl<S: Voice + AllocGlobal, F: Stores, R: Read, W: Write> Holder<F, DriverLink<R, W>>
+impl<S: Voice + AllocGlobal, F: Stores, R: Read, W: Write> Holder<F, Session<R, W>>
     for Replacing<'_, S> {
     type Due = DueSwap;
 
     type Out = DueSwap;
 
-    ghost use Rattle.std.specs.Prelude.{◌≡◌};
-    ghost use Rattle.dali_commission_replaced.specs.Due.{Dues};
-    ghost use Rattle.dali_commission_stores.specs.Settled.{IsExchanged};
+    ghost use Rattle.dali_commission_replaced.specs.Due.{Dues, EndsDue};
 
     ghost dues = { λ replacing all was at x y result. Dues F.Open.is_up F.Open.is_sound F.Open.holds F.Open.kept
         F.Open.block F.made F.saw F.opens R.remaining W.contents (S.told replacing.asking.now.system.now)
         replacing.asking.now.wanted.now replacing.names.now all was at x y result };
 
-    ghost ends = { λ _ from to due out. IsExchanged F.made F.saw due.swap from to × (out ≡ due) };
+    ghost ends = { λ _ from to due result. EndsDue F.made F.began F.saw from to due result };
 
     fn refused(&self, name: &str, failure: Failure) -> Failure {
         say_refused(self.asking.system, name, failure)
@@ -562,12 +561,12 @@ impl<S: Voice + AllocGlobal, F: Stores, R: Read, W: Write> Holder<F, DriverLink<
         &mut self,
         stores: &mut F,
         all: &[Kept],
-        driver: &mut DriverLink<R, W>,
+        session: &mut Session<R, W>,
     ) -> Result<DueSwap, Failure> {
         let system = self.asking.system;
         are_unannounced(system.alloc(), stores, self.names)?;
-        let gave = self.gives(stores, driver, all);
-        self.report.note_lines(system, driver, gave)
+        let gave = self.gives(stores, &mut session.driver, all, &mut session.report);
+        session.report.note_lines(system, &session.driver, gave)
     }
 
     /// Exchanges the files.
@@ -575,22 +574,6 @@ impl<S: Voice + AllocGlobal, F: Stores, R: Read, W: Write> Holder<F, DriverLink<
         exchange(self.asking.system, stores, &due.swap)?;
         Ok(due)
     }
-}
-
-/// Where a file of this name lies.
-fn place_of<S: Voice + AllocGlobal, F: Stores>(
-    system: &S,
-    stores: &F,
-    name: &str,
-) -> Result<String, Failure>
-    ensures { IfOk result (λ at. F.saw stores.now (Lies name.now (string_bytes at))) }
-{
-    let place = or_say(system, name, stores.place_of(system.alloc(), name))?;
-    // A journal names each file on a line.
-    if place.contains("\n") {
-        return Err(say_refused(system, name, Failure::Store(StoreFault::CannotOpen)));
-    }
-    Ok(place)
 }
 
 /// Adds where the files of these names lie.
@@ -659,43 +642,52 @@ pub(crate) fn are_apart(alloc: Global, names: &[String]) -> Result<bool, Failure
     }
 }
 
-/// Notes the table of the first file, when a luminaire is replaced. If that cannot be read any more, none is noted.
-pub fn note_first<F: Stores>(alloc: Global, stores: &F, name: Option<&str>, report: &mut Report)
-    ensures { MatchOption name.entry (report.new ≡ report.old) (λ it. (report.new ≡ report.old)
-        ⊎ ((kept : Kept) × F.saw stores.now (Read it.now kept)
-        × (report.new.table.items ≡ own_rows kept.reserved (rows kept.enrolled)))) }
+/// Notes the first of some tables.
+pub(crate) fn note_first(tables: &[Kept], report: &mut Report)
+    ensures { report.new ≡ first_table tables.now report.old }
 {
-    if let Some(name) = name {
+    if let [table, ..] = tables {
+        report.table = own_rows(table);
+    }
+}
+
+/// Notes the table of the first file. If that cannot be read any more, none is noted.
+pub(crate) fn note_read<F: Stores>(
+    alloc: Global,
+    stores: &F,
+    records: &[String],
+    report: &mut Report,
+)
+    ensures { NotesFirst F.saw stores.now records.now report.old report.new }
+{
+    if let [name, ..] = records {
         if let Ok(kept) = lend_copy(alloc, stores, name, Reading, &mut ()) {
-            report.note_table(&kept);
+            report.table = own_rows(&kept);
         }
     }
 }
 
 /// Gives a new luminaire the short address of one that is gone, in all records of the site; or finishes what an earlier
-/// call has begun. The new gear that was heard to have the address.
+/// call has begun. It ends well only with the new gear that was heard to have the address.
 pub fn replaces<S, F, R, W>(
     system: &S,
     stores: &mut F,
-    driver: &mut DriverLink<R, W>,
+    session: &mut Session<R, W>,
     manner: Manner,
     records: &[String],
     wanted: &Replacement,
-    report: &mut Report,
-) -> Result<Confirmed, Failure>
+) -> Result<(), Failure>
 where
     S: Voice + AllocGlobal,
     F: Stores,
     R: Read,
     W: Write,
-    ensures short { IfOk result (λ seen. confirmed_at seen ≡ wanted.now.short) }
-    ensures replaced { IfOk result (λ seen. HasReplaced F.Open.is_up F.Open.is_sound F.Open.holds F.Open.kept
-        F.Open.block F.made
-        F.saw F.opens R.remaining W.contents (S.told system.now) wanted.now records.now (confirmed_random seen)
-        stores.old stores.new driver.old driver.new) }
+    ensures replaced { OnOk result ((random : ℕ) × HasReplaced F.Open.is_up F.Open.is_sound F.Open.holds F.Open.kept
+        F.Open.block F.made F.saw F.opens R.remaining W.contents (S.told system.now) wanted.now records.now random
+        stores.old stores.new session.old session.new) }
     ensures failed { IfErr result (λ failure. HasNotReplaced F.Open.is_up F.Open.is_sound F.Open.holds F.Open.kept
-        F.Open.block F.made F.saw F.opens R.remaining W.contents (S.told system.now) wanted.now records.now failure
-        stores.old driver.old driver.new) }
+        F.Open.block F.made F.began F.saw F.opens R.remaining W.contents (S.told system.now) wanted.now records.now
+        failure stores.old stores.new session.old session.new) }
 {
     let asking = Asking {
         system,
@@ -707,17 +699,19 @@ where
         return Err(asking.refusal(ReplaceRefusal::SameFile));
     }
     if let Some(swap) = exchanged(system, stores, &names, wanted.short)? {
-        return confirms(&asking, stores, driver, &swap, report);
+        let _heard = confirms(&asking, stores, session, &swap)?;
+        note_read(system.alloc(), stores, records, &mut session.report);
+        return Ok(());
     }
     let mut copies = Vec::new(system.alloc());
     read_all(system, stores, &names, &mut copies)?;
     let replacing = Replacing {
         asking: &asking,
         names: &names,
-        report,
     };
-    let done = stores.hold(system.alloc(), &names, replacing, driver)?;
+    let done = stores.hold(system.alloc(), &names, replacing, session)?;
     asking.say_confirmed(&done.confirmed, &done.news);
     let _ = say_kept(system, done.swap.names(), done.swap.number());
-    Ok(done.confirmed)
+    note_first(&done.news, &mut session.report);
+    Ok(())
 }

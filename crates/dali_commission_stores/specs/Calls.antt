@@ -3,12 +3,13 @@ use Rattle.dali_script.specs.Records.{Kept}
 
 -- A CALL OF THE PLACES where records are kept, which changes something there, with its names: a
 -- text was written, what has one name was given another one, or the rights of another one, or was
--- removed; records were opened, or closed
+-- removed; what was done in its folder was put on the disk; records were opened, or closed
 pub data Call : Type 0 where
   Wrote : List ℕ → List ℕ → Call
   Renamed : List ℕ → List ℕ → Call
   Likened : List ℕ → List ℕ → Call
   Removed : List ℕ → Call
+  Synced : List ℕ → Call
   Opened : List ℕ → Call
   Closed : List ℕ → Call
 

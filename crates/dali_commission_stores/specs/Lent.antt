@@ -1,4 +1,4 @@
-use Rattle.std.specs.Prelude.{◌≡◌, ◌⊎◌, ℕ, true, false, List, [], ◌∷◌, ◌++◌, Result, Ok, IsErr}
+use Rattle.std.specs.Prelude.{◌≡◌, ◌⊎◌, ℕ, true, false, List, [], ◌∷◌, ◌++◌, Result, Ok, Err, IsErr}
 use Rattle.std.specs.Prelude.{IfOk, string_bytes}
 use Rattle.std.specs.declared.alloc.Global.{Global}
 use Rattle.std.specs.declared.string.String.{String}
@@ -62,18 +62,29 @@ AreRead saw stores (name ∷ more) before after =
 
 -- RECORDS OF SEVERAL NAMES ARE HELD, and something is lent beside them: they cannot be had, and all
 -- is as it was; or the holder does with those of all names what it does, and then, if that ended
--- well, what was due.
+-- well, what was due. Why it failed is answered, or that the files could not be closed, or why what
+-- was due failed.
+abbrev pub HeldSo : {F H Due Out : Type 0} → (H → F → F → Due → Result Out Failure → Type 0)
+    → F → F → Result Due Failure → Result Out Failure → Type 0
+HeldSo {H = H} {Due = Due} ends at now done (Ok out) =
+    (by : H) × (due : Due) × (done ≡ Ok due) × ends by at now due (Ok out)
+HeldSo {H = H} {Due = Due} ends at now done (Err failure) =
+    ((done ≡ Err failure) × (now ≡ at))
+    ⊎ ((due : Due)
+    × (done ≡ Ok due)
+    × ((now ≡ at) ⊎ ((by : H) × ends by at now due (Err failure))))
+
 abbrev pub IsHeld : {F D H Due Out : Type 0} → (F → Look → Type 0) → List (String Global)
     → (List Kept → F → F → D → D → Result Due Failure → Type 0)
-    → (H → F → F → Due → Out → Type 0) → F → F → D → D → Result Out Failure → Type 0
-IsHeld {F = F} {H = H} {Due = Due} saw names dues ends was now x y result =
+    → (H → F → F → Due → Result Out Failure → Type 0) → F → F → D → D → Result Out Failure → Type 0
+IsHeld {F = F} {Due = Due} saw names dues ends was now x y result =
     (IsErr result × (now ≡ was) × (y ≡ x))
     ⊎ ((all : List Kept)
     × AreRead saw was names [] all
     × (at : F)
     × (done : Result Due Failure)
     × dues all was at x y done
-    × IfOk result (λ out. (by : H) × (due : Due) × (done ≡ Ok due) × ends by at now due out))
+    × HeldSo ends at now done result)
 
 -- ALL OTHERS ARE KEPT from acting by a name, and the actor does what it does; or they could not be
 -- kept from it, and all is as it was

@@ -11,7 +11,7 @@ use Rattle.dali_replacement.specs.Come.{come_of}
 use Rattle.dali_replacement.specs.declared.swap.Lies.{Lies}
 use Rattle.dali_replacement.specs.declared.swapping.Swap.{Swap}
 use Rattle.dali_replacement.specs.Swap.{AreAt}
-use Rattle.dali_replacement.specs.Swapping.{names_of, number_of, swap_text, texts_of}
+use Rattle.dali_replacement.specs.Swapping.{names_of, number_of, swap_text, texts_of, IsWithout}
 use Rattle.dali_commission_stores.specs.declared.records.Seen.{Seen}
 use Rattle.dali_commission_stores.specs.Calls.{Look}
 use Rattle.dali_commission_stores.specs.Calls as look
@@ -24,6 +24,10 @@ IsBeside saw x name journal =
     × saw x (look.Lies name at)
     × saw x (look.Text (journal_at at) None)
     × (journal ≡ journal_at at)
+
+-- WHERE THE FILE OF A NAME LIES, under a name on one line: a journal names each file on a line
+abbrev pub LiesOnLine : {F : Type 0} → (F → Look → Type 0) → F → List ℕ → List ℕ → Type 0
+LiesOnLine saw x name at = saw x (look.Lies name at) × IsWithout 10 at
 
 -- RECORDS THAT WERE SEEN: a copy of them was read, they are of the block, and no journal lay beside
 -- them

@@ -1,16 +1,41 @@
 //! Old files that are kept and new ones that are put aside: under names that nothing else has.
 
-ghost use Rattle.std.specs.Prelude.{◌≡◌, true, IfOk, OnOk, ℕ, IsTrue, string_bytes, false};
+ghost use Rattle.std.specs.Prelude.{◌≡◌, ◌↔◌, true, IfOk, OnOk, ℕ, IsTrue, string_bytes, false};
+ghost use Rattle.dali_replacement.specs.Swapping.{IsWithout};
 ghost use Rattle.dali_commission_stores.specs.Calls.{Has};
 ghost use Rattle.dali_commission_stores.specs.Keeping.{AreKeptTold, IsAside, AreFree, aside_at};
 ghost use Rattle.dali_commission_stores.specs.Keeping.{LiesElsewhere, LieElsewhere};
+ghost use Rattle.dali_commission_stores.specs.Seen.{LiesOnLine};
 
 use crate::records::{Reading, lend};
 use crate::stores::Stores;
-use dali_commission_said::{Failure, Said, StoreFault, Voice, or_say, say};
+use dali_commission_said::{Failure, Said, StoreFault, Voice, or_say, say, say_refused};
 use dali_replacement::{aside_of, kept_of, new_of};
 use dali_script::Block;
 use std::alloc::Global;
+
+/// Whether a name stands on one line.
+fn is_line(name: &str) -> bool
+    ensures { IsTrue result ↔ IsWithout 10 name.now }
+{
+    !name.as_bytes().contains(&10)
+}
+
+/// Where the file of a name lies. A journal names each file on a line.
+pub fn place_of<S: Voice + AllocGlobal, F: Stores>(
+    system: &S,
+    stores: &F,
+    name: &str,
+) -> Result<String, Failure>
+    ensures { IfOk result (λ at. LiesOnLine F.saw stores.now name.now (string_bytes at)) }
+{
+    let place = or_say(system, name, stores.place_of(system.alloc(), name))?;
+    if is_line(&place) {
+        Ok(place)
+    } else {
+        Err(say_refused(system, name, Failure::Store(StoreFault::CannotOpen)))
+    }
+}
 
 /// Says where the old files of these names are kept.
 pub fn say_kept<S: Voice + AllocGlobal>(

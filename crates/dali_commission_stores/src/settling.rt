@@ -5,9 +5,10 @@ ghost use Rattle.dali_replacement.specs.Swapping.{number_of};
 ghost use Rattle.dali_commission_stores.specs.Seen.{LiesSo, AreLying, IsMoment, IsFirstJournal, IsFound};
 ghost use Rattle.dali_replacement.specs.declared.swap.Step.{Step};
 ghost use Rattle.dali_commission_said.specs.Failures.{or_unfinished};
-ghost use Rattle.dali_commission_stores.specs.Settled.{IsSettled, IsSettledInPart, IsAlone, IsExchanged};
-ghost use Rattle.dali_commission_stores.specs.Settled.{IsExchangedInPart};
-ghost use Rattle.dali_commission_stores.specs.Settling.{IsNamed, IsDone, IsBegun, GoesOn, GoesBack};
+ghost use Rattle.dali_commission_stores.specs.Calls.{AreMade};
+ghost use Rattle.dali_commission_stores.specs.Settled.{syncing, IsEnded, IsEndedInPart, IsSettled, IsSettledInPart};
+ghost use Rattle.dali_commission_stores.specs.Settled.{IsAlone, IsExchanged, IsExchangedInPart};
+ghost use Rattle.dali_commission_stores.specs.Settling.{IsNamed, IsDone, IsBegun, AreBegun, GoesOn, GoesBack};
 ghost use Rattle.dali_commission_stores.specs.Settling.{GoesOnInPart, GoesBackInPart};
 
 use crate::stores::{Actor, Stores};
@@ -133,14 +134,26 @@ fn goes_back<F: Stores>(
     goes_back(alloc, stores, swap, from - 1)
 }
 
+/// Puts on the disk what was done in the folders of these files.
+fn syncs<F: Stores>(stores: &mut F, names: &[String]) -> Result<(), Failure>
+    ensures synced { OnOk result (AreMade F.made (syncing names.now) stores.old stores.new) }
+    ensures left { OnErr result (AreBegun F.made F.began (syncing names.now) stores.old stores.new) }
+{
+    let [name, more @ ..] = names else {
+        return Ok(());
+    };
+    stores.sync(name)?;
+    syncs(stores, more)
+}
+
 /// Brings a swap to its end, or takes it back if not each journal was written. Whether it was brought to its end.
-fn settles<S: Voice + AllocGlobal, F: Stores>(
+fn ends<S: Voice + AllocGlobal, F: Stores>(
     system: &S,
     stores: &mut F,
     swap: &Swap,
 ) -> Result<bool, Failure>
-    ensures settled { IfOk result (IsSettled F.made F.saw swap.now stores.old stores.new) }
-    ensures left { OnErr result (IsSettledInPart F.made F.began F.saw swap.now stores.old stores.new) }
+    ensures ended { IfOk result (IsEnded F.made F.saw swap.now stores.old stores.new) }
+    ensures left { OnErr result (IsEndedInPart F.made F.began F.saw swap.now stores.old stores.new) }
 {
     let (alloc, count) = (system.alloc(), swap.count());
     match moment(alloc, stores, swap)? {
@@ -157,6 +170,19 @@ fn settles<S: Voice + AllocGlobal, F: Stores>(
             Err(Failure::Unfinished)
         }
     }
+}
+
+/// Ends a swap as `ends` does, once all that an earlier call has done is on the disk.
+fn settles<S: Voice + AllocGlobal, F: Stores>(
+    system: &S,
+    stores: &mut F,
+    swap: &Swap,
+) -> Result<bool, Failure>
+    ensures settled { IfOk result (IsSettled F.made F.saw swap.now stores.old stores.new) }
+    ensures left { OnErr result (IsSettledInPart F.made F.began F.saw swap.now stores.old stores.new) }
+{
+    syncs(stores, swap.names())?;
+    ends(system, stores, swap)
 }
 
 /// A swap that could not be brought to its end is unfinished, and why is said.

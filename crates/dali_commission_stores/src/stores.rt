@@ -46,7 +46,7 @@ pub trait Holder<F, D>: Drop {
 
     /// What it does once the files are closed, from the places before to those after it, if this was due and that came
     /// of it.
-    ghost ends: { Self → F → F → Self.Due → Self.Out → Type 0 };
+    ghost ends: { Self → F → F → Self.Due → Result Self.Out Failure → Type 0 };
 
     /// Does what is to be done with the records, in the order of their names, and with their files open.
     fn take(&mut self, stores: &mut F, all: &[Kept], beside: &mut D) -> Result<Self::Due, Failure>
@@ -54,7 +54,7 @@ pub trait Holder<F, D>: Drop {
 
     /// Does what is to be done then, if that ended well, with each file closed and nothing beside it.
     fn then(self, stores: &mut F, due: Self::Due) -> Result<Self::Out, Failure>
-        ensures { IfOk result (ends self stores.old stores.new due) };
+        ensures { ends self stores.old stores.new due result };
 }
 
 /// Who does something alone, in these places.
@@ -80,8 +80,8 @@ pub trait Actor<F>: Drop {
 /// there, which other programs may change.
 pub trait Stores: Sized {
     ghost use Rattle.dali_script.specs.Records.{Kept};
-    ghost use Rattle.dali_commission_stores.specs.Calls.{Call, Wrote, Renamed, Likened, Removed, Opened, Closed};
-    ghost use Rattle.dali_commission_stores.specs.Calls.{Look, Has, Text, Lies};
+    ghost use Rattle.dali_commission_stores.specs.Calls.{Call, Wrote, Renamed, Likened, Removed, Synced};
+    ghost use Rattle.dali_commission_stores.specs.Calls.{Opened, Closed, Look, Has, Text, Lies};
     ghost use Rattle.std.specs.Prelude.{false};
     ghost use Rattle.dali_commission_stores.specs.Lent.{Copies, IsHeld, ActsAlone};
     ghost use Rattle.dali_commission_stores.specs.declared.records.Seen.{Seen};
@@ -170,4 +170,9 @@ pub trait Stores: Sized {
     fn remove(&mut self, alloc: Global, name: &str) -> Result<(), Failure>
         ensures made { OnOk result (made self.old self.new (Removed name.now)) }
         ensures began { OnErr result (began self.old self.new (Removed name.now)) };
+
+    /// What was done in the folder of this name is on the disk then.
+    fn sync(&mut self, name: &str) -> Result<(), Failure>
+        ensures made { OnOk result (made self.old self.new (Synced name.now)) }
+        ensures began { OnErr result (began self.old self.new (Synced name.now)) };
 }

@@ -14,7 +14,7 @@ use Rattle.dali_controller.specs.Next.{begins_at, goes_on_to, silenced, silenced
 use Rattle.dali_controller.specs.Next.{asks_again, full, ungiven, undrawn, nobody_left, hunted_to, hunted_in, blocked, is_blocked, called_to, called_in}
 use Rattle.dali_controller.specs.{Next.{asked_once, is_hunting, question}, Orders.{Cause, IsBegun, AllAreFound, IsUndrawn, IsUngivable, IsBlockFull, IsStuck}}
 use Rattle.dali_controller.specs.{Orders.{IsOrdered, IsOrderedTo, machine_ordered, machine_ordered_on}, States.{machine_with, course_of}, Tally.asked_again}
-use Rattle.dali_controller.specs.{Tally.{silent_call, heard_call}, Whole.{Knows, IsSurvey, IsWithinSilence, IsWhole, IsUnstarted, Pending}}
+use Rattle.dali_controller.specs.{Next.giving_up, Tally.{silent_call, heard_call}, Whole.{Knows, IsSurvey, IsWithinSilence, IsWhole, IsUnstarted, Pending}}
 use Rattle.dali_controller.specs.declared.{leg.Leg.Leg, purpose.Purpose.{Purpose, TheVariants.{Opening, Probing, Visiting, Resolving, Closing, Asking}}}
 use Rattle.dali_controller.specs.declared.{purpose.Purpose.TheVariants.{Hunting, Calling, Drawing}, state.State.State, tally.Tally.Tally, way.Way.Way}
 use Rattle.dali_controller.{specs.declared.way.Way.TheVariants.{Fresh, Surveying}, proofs.Courses.{searches_first_keeps, either, asks_again_with}}
@@ -149,11 +149,15 @@ full_shut t c way survey ungivable = go (asks_again t) refl where
 
 undrawn_shut : (t : Machine) (c : Course) → c.way ≡ t.course.way → t.course.way ≡ Surveying → c.tally ≡ t.course.tally → IsUndrawn t → IsShut t (undrawn t c)
 undrawn_shut t c way survey same undrawn = go (has_open t) refl (nat_lt c.tally.draws 3) refl where
-  go : (b : Bool) → has_open t ≡ b → (d : Bool) → nat_lt c.tally.draws 3 ≡ d → IsShut t (if b then (if d then drawing c else closing c GaveUp) else full t c)
+  by : (b : Bool) → c.tally.is_heard ≡ b → nat_lt c.tally.draws 3 ≡ false → IsShut t (if b then closing c GaveUp else calling c)
+  by true heard few =
+      let over : nat_lt t.course.tally.draws 3 ≡ false = ap (λ (y : Tally). nat_lt y.draws 3) (sym same) ∙ few in
+      shuts t _ GaveUp way refl (inr (subst (IsStuck t) (sym survey) (inr (undrawn, over, ap (λ (y : Tally). y.is_heard) (sym same) ∙ heard))))
+  by false heard few = opens t _ way refl
+
+  go : (b : Bool) → has_open t ≡ b → (d : Bool) → nat_lt c.tally.draws 3 ≡ d → IsShut t (if b then (if d then drawing c else giving_up c) else full t c)
   go true unclosed true few = opens t _ way refl
-  go true unclosed false few =
-      let spent : nat_lt t.course.tally.draws 3 ≡ false = ap (λ (y : Tally). nat_lt y.draws 3) (sym same) ∙ few in
-      shuts t _ GaveUp way refl (inr (subst (IsStuck t) (sym survey) (inr (undrawn, spent))))
+  go true unclosed false few = by c.tally.is_heard refl few
   go false none d few = full_shut t c way survey (inr (undrawn, none))
 
 left_shut : (t : Machine) (c : Course) → c.way ≡ t.course.way → t.course.way ≡ Surveying → c.tally ≡ t.course.tally → (c.ascent.found ≡ 0 → IsUndrawn t)
@@ -451,7 +455,8 @@ full_other t c = let other = λ (d : Course). is_hunting d.purpose ≡ false in 
 left_other : (t : Machine) (c : Course) → is_hunting (nobody_left t c).purpose ≡ false
 left_other t c =
     let other = λ (d : Course). is_hunting d.purpose ≡ false in
-    either other (c.ascent.found == 0) (either other (has_open t) (either other (nat_lt c.tally.draws 3) refl refl) (full_other t c)) refl
+    either other (c.ascent.found == 0)
+    (either other (has_open t) (either other (nat_lt c.tally.draws 3) refl (either other c.tally.is_heard refl refl)) (full_other t c)) refl
 
 -- after the last no of a hunt
 abbrev hunting_state : State → Ascent → State

@@ -1,6 +1,6 @@
 use Rattle.std.proofs.Common.{◌≡◌, ℕ, ◌+◌, ◌-◌, ◌<◌, inl, inr, Bool, true, false, List, [], ◌∷◌, ◌++◌, refl, sym, ap, subst, ◌∙◌, arith, Option, Some, None}
 use Rattle.std.proofs.{Common.{◌==◌, nat_lt, MatchOption, is_some, suc, if◌then◌else◌, ◌⊎◌}, lemmas.Bool.Decides.nat_tests}
-use Rattle.dali_frame.specs.{Priority.LATER, Random.value_of, declared.frames.{Answer.{Answer, TheVariants.Silence}, Forward.Forward}}
+use Rattle.dali_frame.specs.{Priority.LATER, Random.value_of, declared.frames.{Answer.{Answer}, Forward.Forward}}
 use Rattle.dali_frame.specs.declared.numbers.SearchAddress.{SearchAddress}
 use Rattle.dali_special.specs.{Command.frame_of, declared.command.Command.Command}
 use Rattle.dali_script.specs.{Due.{due_after, frame_put}, Records.{Assignment, Kept, Has, IsOnce, addresses, randoms, HasAddress, HasRandom}, Stages.stage_of}
@@ -217,104 +217,136 @@ goes_on_with P k false c anew on opens visits calls asks = go c.way where
   go Fresh = visit (next_unfinished k c.from)
   go Surveying = asks_by P c (next_asked k c.from) calls asks
 
--- how a machine began stays as it is, and no silent roll call is counted that was not counted before
+-- how a machine began stays as it is, and no silent roll call is counted that was not counted before; nor one that gear
+-- answered, and then gear draw no more often
 pub record Keeps (c new : Course) : Type 0 where
   pub way : new.way ≡ c.way
   pub silent : new.tally.is_silent ≡ true → c.tally.is_silent ≡ true
+  pub heard : new.tally.is_heard ≡ true → (c.tally.is_heard ≡ true) × (new.tally.draws ≡ c.tally.draws)
 
-stays : {c new : Course} → new.way ≡ c.way → new.tally.is_silent ≡ c.tally.is_silent → Keeps c new
-stays {c} {new} way same = record { way = way; silent = λ s. sym same ∙ s }
+abbrev marks : Course → Way × Bool × Bool × ℕ
+marks c = (c.way, c.tally.is_silent, c.tally.is_heard, c.tally.draws)
+
+stays : {c new : Course} → marks new ≡ marks c → Keeps c new
+stays {c} {new} same = record {
+  way = ap (λ (m : Way × Bool × Bool × ℕ). m.0) same;
+  silent = λ s. sym (ap (λ (m : Way × Bool × Bool × ℕ). m.1) same) ∙ s;
+  heard = λ h. (sym (ap (λ (m : Way × Bool × Bool × ℕ). m.2) same) ∙ h, ap (λ (m : Way × Bool × Bool × ℕ). m.3) same);
+}
+
+-- gear draw: no roll call counts as answered
+draws : {c new : Course} → new.way ≡ c.way → new.tally.is_silent ≡ c.tally.is_silent → new.tally.is_heard ≡ false → Keeps c new
+draws {c} {new} way same none = record { way = way; silent = λ s. sym same ∙ s; heard = λ h. absurd (let no : false ≡ true = sym none ∙ h in cc) }
 
 pub goes_on_keeps : (t : Machine) → Keeps t.course (goes_on_to t)
 goes_on_keeps t =
-    goes_on_with (Keeps t.course) t.kept t.course.opened t.course (stays refl refl) (stays refl refl) (stays refl refl) (λ a r. stays refl refl)
-    (stays refl refl) (λ a. stays refl refl)
+    goes_on_with (Keeps t.course) t.kept t.course.opened t.course (stays refl) (stays refl) (stays refl) (λ a r. stays refl)
+    (stays refl) (λ a. stays refl)
 
 pub searches_first_keeps : (y : Way) (c : Course) → Keeps c (searching_first y c)
-searches_first_keeps Fresh c = stays refl refl
-searches_first_keeps Surveying c = stays refl refl
+searches_first_keeps Fresh c = stays refl
+searches_first_keeps Surveying c = stays refl
 
 full_keeps : (t : Machine) (c : Course) → Keeps c (full t c)
-full_keeps t c = either (Keeps c) (asks_again t) (asks_again_with (Keeps c) t.kept c (stays refl refl) (λ a. stays refl refl)) (stays refl refl)
+full_keeps t c = either (Keeps c) (asks_again t) (asks_again_with (Keeps c) t.kept c (stays refl) (λ a. stays refl)) (stays refl)
 
 undrawn_keeps : (t : Machine) (c : Course) → Keeps c (undrawn t c)
-undrawn_keeps t c = either (Keeps c) (has_open t) (either (Keeps c) (nat_lt c.tally.draws 3) (stays refl refl) (stays refl refl)) (full_keeps t c)
+undrawn_keeps t c =
+    either (Keeps c) (has_open t)
+    (either (Keeps c) (nat_lt c.tally.draws 3) (draws refl refl refl) (either (Keeps c) c.tally.is_heard (stays refl) (stays refl)))
+    (full_keeps t c)
 
 hunts_keep : (t : Machine) (s : Step) (c : Course) → Keeps c (hunted_to t s c)
-hunts_keep t Nobody c = either (Keeps c) (c.ascent.found == 0) (undrawn_keeps t c) (stays refl refl)
-hunts_keep t Again c = stays refl refl
-hunts_keep t (Found r) c = stays refl refl
+hunts_keep t Nobody c = either (Keeps c) (c.ascent.found == 0) (undrawn_keeps t c) (stays refl)
+hunts_keep t Again c = stays refl
+hunts_keep t (Found r) c = stays refl
 
 pub hunted_keeps : (t : Machine) (h : Answer) → Keeps t.course (hunted_in t h)
-hunted_keeps t h = let k = hunts_keep t (leads_to (hunted t.course h).ascent) (hunted t.course h) in record { way = k.way; silent = k.silent }
+hunted_keeps t h = let k = hunts_keep t (leads_to (hunted t.course h).ascent) (hunted t.course h) in record { way = k.way; silent = k.silent; heard = k.heard }
 
--- gear answered a roll call
-heard_keeps : (t : Machine) → Keeps t.course (called_to t true t.course)
-heard_keeps t =
-    either (Keeps t.course) (is_blocked t.course.tally)
-    (either (Keeps t.course) (may_draw t) (record { way = refl; silent = λ s. cc }) (stays refl refl)) (record { way = refl; silent = λ s. cc })
+-- gear answered a roll call, or it was silent
+pub record Calls (said : Bool) (c new : Course) : Type 0 where
+  pub way : new.way ≡ c.way
+  pub silent : new.tally.is_silent ≡ true → (c.tally.is_silent ≡ true) ⊎ (said ≡ false)
+  pub heard : new.tally.is_heard ≡ true → ((c.tally.is_heard ≡ true) ⊎ (said ≡ true)) × (new.tally.draws ≡ c.tally.draws)
+
+calls_of : {c new : Course} (said : Bool) → Keeps c new → Calls said c new
+calls_of said k = record { way = k.way; silent = λ s. inl (k.silent s); heard = λ h. (inl (k.heard h).0, (k.heard h).1) }
+
+called_calls : (t : Machine) (said : Bool) → Calls said t.course (called_to t said t.course)
+called_calls t false =
+    either (Calls false t.course) t.course.tally.is_silent (calls_of false (stays refl))
+    (record { way = refl; silent = λ s. inr refl; heard = λ h. (inl h, refl) })
+called_calls t true =
+    either (Calls true t.course) (is_blocked t.course.tally)
+    (either (Calls true t.course) (may_draw t) (record { way = refl; silent = λ s. absurd (cc); heard = λ h. absurd (cc) }) (calls_of true (stays refl)))
+    (record { way = refl; silent = λ s. absurd (cc); heard = λ h. (inr refl, refl) })
 
 ungiven_keeps : (t : Machine) (y : Way) → Keeps t.course (ungiven t y)
-ungiven_keeps t Fresh = stays refl refl
-ungiven_keeps t Surveying = either (Keeps t.course) (may_draw t) (stays refl refl) (full_keeps t t.course)
+ungiven_keeps t Fresh = stays refl
+ungiven_keeps t Surveying = either (Keeps t.course) (may_draw t) (draws refl refl refl) (full_keeps t t.course)
 
 silenced_keeps : (t : Machine) → Keeps t.course (silenced t)
-silenced_keeps t = either (Keeps t.course) (t.silent == most_silent t.course.way) (stays refl refl) (on t.course.way) where
+silenced_keeps t = either (Keeps t.course) (t.silent == most_silent t.course.way) (stays refl) (on t.course.way) where
   again : (b : Bool) → Keeps t.course (missed_again b t.course)
-  again true = stays refl refl
-  again false = stays refl refl
+  again true = stays refl
+  again false = stays refl
 
   on : (y : Way) → Keeps t.course (silenced_on t y)
   on Fresh = goes_on_keeps t
   on Surveying = again (is_failed t.course.tally.failed (value_of t.course.number))
 
--- a COMPARE of a roll call was heard as silence: only how the machine began stays
-pub record IsSilentAt (t : Machine) (s : Stage) : Type 0 where
+-- a COMPARE of a roll call was heard
+pub record IsCalledAt (t : Machine) (s : Stage) : Type 0 where
   pub number : SearchAddress
+  pub heard : Answer
   pub left : ℕ
-  pub stage : s ≡ Hunted number (Some Silence) left
+  pub stage : s ≡ Hunted number (Some heard) left
   pub calling : t.course.purpose ≡ Calling
-  pub way : (begins_at t s).way ≡ t.course.way
+  pub calls : Calls (is_yes heard) t.course (begins_at t s)
 
 -- the transaction that begins at a stage
-pub keeps : (t : Machine) (s : Stage) → Keeps t.course (begins_at t s) ⊎ IsSilentAt t s
-keeps t (Hunted r (Some h) left) = go t.course.purpose refl h where
-  ends : (called_to t false t.course).way ≡ t.course.way
-  ends = either (λ d. d.way ≡ t.course.way) t.course.tally.is_silent refl refl
-
-  go : (p : Purpose) → t.course.purpose ≡ p → (h : Answer) → Keeps t.course (compared_in t p h) ⊎ IsSilentAt t (Hunted r (Some h) left)
-  go Calling is Silence = inr (record { number = r; left = left; stage = refl; calling = is; way = ap (λ p. (compared_in t p Silence).way) is ∙ ends })
-  go Calling is _ = inl (heard_keeps t)
-  go _ is h = inl (hunted_keeps t h)
+pub keeps : (t : Machine) (s : Stage) → Keeps t.course (begins_at t s) ⊎ IsCalledAt t s
+keeps t (Hunted r (Some h) left) = go t.course.purpose refl where
+  go : (p : Purpose) → t.course.purpose ≡ p → Keeps t.course (compared_in t p h) ⊎ IsCalledAt t (Hunted r (Some h) left)
+  go Calling is = inr (record {
+    number = r;
+    heard = h;
+    left = left;
+    stage = refl;
+    calling = is;
+    calls = subst (λ p. Calls (is_yes h) t.course (compared_in t p h)) (sym is) (called_calls t (is_yes h));
+  })
+  go _ is = inl (hunted_keeps t h)
 keeps t Free = inl (go t.last) where
   go : (last : Option Order) → Keeps t.course (at_rest t last)
-  go (Some (Put p f)) = stays refl refl
-  go (Some (Commit (Reserve a n))) = stays refl refl
+  go (Some (Put p f)) = stays refl
+  go (Some (Commit (Reserve a n))) = stays refl
   go _ = goes_on_keeps t
 keeps t (HighAsked a high) = inl (go (t.asked == 0)) where
   go : (b : Bool) → Keeps t.course (asked_once t b)
   go true = goes_on_keeps t
-  go false = stays refl refl
+  go false = stays refl
 keeps t (Probed r h) = inl (go (answered t.course.search (is_yes h))) where
   go : (x : Search) → Keeps t.course (after_step x.step (record t.course { search = x }))
   go x = on x.step where
     on : (s : Step) → Keeps t.course (after_step s (record t.course { search = x }))
-    on Again = stays refl refl
-    on (Found r) = stays refl refl
-    on Nobody = stays refl refl
+    on Again = stays refl
+    on (Found r) = stays refl
+    on Nobody = stays refl
 keeps t (Unanswered r) = inl (go t.course.opened (address_for t.kept.reserved (value_of r))) where
   go : (opened : Bool) (a : Option ℕ) → Keeps t.course (unanswered t r opened a)
-  go false (Some a) = stays refl refl
+  go false (Some a) = stays refl
   go _ _ = silenced_keeps t
 keeps t Opened = inl (searches_first_keeps t.course.way t.course)
 keeps t DrawBarred = inl (searches_first_keeps t.course.way t.course)
 keeps t (Unnamed r) = inl (ungiven_keeps t t.course.way)
 keeps t (Inconclusive r other) = inl (silenced_keeps t)
-keeps t (PassedOver r) = inl (stays refl refl)
+keeps t (PassedOver r) = inl (stays refl)
 keeps t _ = inl (goes_on_keeps t)
 
 pub keeps_way : (t : Machine) → (next_course t).way ≡ t.course.way
-keeps_way t = elim (keeps t (stage_of t.trace)) [ inl k ↦ k.way | inr x ↦ x.way ]
+keeps_way t = elim (keeps t (stage_of t.trace)) [ inl k ↦ k.way | inr x ↦ x.calls.way ]
 
 pub keeps_fresh : (t : Machine) → t.course.way ≡ Fresh → (next_course t).way ≡ Fresh
 keeps_fresh t fresh = keeps_way t ∙ fresh

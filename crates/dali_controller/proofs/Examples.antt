@@ -1,4 +1,4 @@
-use Rattle.std.proofs.Common.{◌≡◌, ℕ, [], ◌∷◌, true, false, Some, None, refl, sym, ◌∙◌}
+use Rattle.std.proofs.Common.{◌≡◌, ℕ, [], ◌∷◌, Bool, true, false, Some, None, refl, sym, ◌∙◌}
 use Rattle.dali_frame.specs.declared.{frames.{Answer.TheVariants.{Silence, Damaged}, Forward.Forward}, numbers.SearchAddress.SearchAddress}
 use Rattle.dali_special.specs.declared.command.Command.TheVariants.{Compare, Randomise}
 use Rattle.dali_script.specs.{Due.{due_after, accepts}, Records.Kept, Stages.stage_of, declared.orders.End.{End, TheVariants.{AllFound, BlockFull, GaveUp}}}
@@ -8,7 +8,7 @@ use Rattle.dali_search.specs.Least.{answered, at_first as search_at_first}
 use Rattle.dali_controller.specs.Course.{course_at_first, sought, probed, searching_anew, closing, next_unfinished, turn_of, calling, hunting_first, drawing}
 use Rattle.dali_controller.specs.{Course.{missed, passing_over, opening_at_last, asking}, Machine.{Machine, at_first, machine_lost, silent_after}}
 use Rattle.dali_controller.specs.{Next.{next_course, begins_at, called_in, nobody_left, silenced, ungiven}, Orders.IsWarranted, Tally.{uncounted, none_passed}}
-use Rattle.dali_controller.specs.Tally.{with_passed, silent_call, heard_call, missed_by, passed_over, asked_again}
+use Rattle.dali_controller.specs.Tally.{with_passed, silent_call, heard_call, drew, missed_by, passed_over, asked_again}
 use Rattle.dali_controller.specs.declared.{purpose.Purpose.TheVariants.{Calling, Drawing, Visiting}, tally.Tally.Tally, way.Way.TheVariants.Surveying}
 
 -- WORKED EXAMPLES of the definitions.
@@ -103,6 +103,21 @@ an_answer_is_searched = refl
 nobody_drew : nobody_left (surveyed one_open uncounted) (surveyed one_open uncounted).course ≡ drawing (surveyed one_open uncounted).course
 nobody_drew = refl
 
+-- if they may draw no more: the roll is called once more, and if gear answered one since they were to draw, it gives up
+abbrev drawn_out : Bool → Tally
+drawn_out heard = record uncounted { draws = 3; is_heard = heard }
+
+it_calls_before : nobody_left (surveyed one_open (drawn_out false)) (surveyed one_open (drawn_out false)).course
+    ≡ calling (surveyed one_open (drawn_out false)).course
+it_calls_before = refl
+
+it_gives_up_then : nobody_left (surveyed one_open (drawn_out true)) (surveyed one_open (drawn_out true)).course
+    ≡ closing (surveyed one_open (drawn_out true)).course GaveUp
+it_gives_up_then = refl
+
+a_draw_is_not_heard : (drew (heard_call uncounted)).is_heard ≡ false
+a_draw_is_not_heard = refl
+
 a_draw_of_nobody : (n : SearchAddress) → turn_of Drawing n DrawFree ≡ Some Randomise
 a_draw_of_nobody n = refl
 
@@ -140,7 +155,7 @@ it_gives_up : called_in (surveyed one_open (hard_to_reach 3)) Damaged ≡ closin
 it_gives_up = refl
 
 nobody_passed_over : called_in (surveyed one_open (record uncounted { calls = 3; draws = 3 })) Damaged
-    ≡ hunting_first (record (surveyed one_open uncounted).course { tally = record uncounted { calls = 3; draws = 3 } })
+    ≡ hunting_first (record (surveyed one_open uncounted).course { tally = record uncounted { calls = 3; draws = 3; is_heard = true } })
 nobody_passed_over = refl
 
 -- no address is open: while a reservation is unfinished after a visit that failed, short addresses are asked again, six

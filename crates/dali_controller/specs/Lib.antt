@@ -11,3 +11,4 @@ pub mod Legs
 pub mod States
 pub mod Steps
 pub mod Acts
+pub mod Called

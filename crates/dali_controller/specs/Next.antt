@@ -104,11 +104,14 @@ abbrev pub probed_in : Machine → Answer → Course
 probed_in t h = probed t.course h
 
 -- In a hunt: no gear is left. If it found some, the roll is called. If it found none, some gear
--- never drew a random address.
+-- never drew a random address. If they may draw no more, it gives up; but first the roll is called,
+-- unless gear answered one since they were to draw last.
+abbrev pub giving_up : Course → Course
+giving_up c = if c.tally.is_heard then closing c GaveUp else calling c
+
 abbrev pub undrawn : Machine → Course → Course
 undrawn t c =
-    if has_open t then (if nat_lt c.tally.draws 3 then drawing c else closing c GaveUp)
-    else full t c
+    if has_open t then (if nat_lt c.tally.draws 3 then drawing c else giving_up c) else full t c
 
 abbrev pub nobody_left : Machine → Course → Course
 nobody_left t c = if c.ascent.found == 0 then undrawn t c else calling c

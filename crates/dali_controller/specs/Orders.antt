@@ -170,7 +170,7 @@ IsBlockFull t Surveying = IsUngivable t × (asks_again t ≡ false)
 
 -- Too many searches in a row led to no gear. In a survey as well: gear answered the fourth roll
 -- call since a visit succeeded, some gear were passed over, and may draw no more; or some gear
--- never drew, and may draw no more.
+-- never drew, may draw no more, and answered a roll call since they were to draw last.
 pub record IsBlocked (t : Machine) : Type 0 where
   pub number : SearchAddress
   pub heard : Answer
@@ -183,7 +183,10 @@ pub record IsBlocked (t : Machine) : Type 0 where
 
 abbrev pub IsStuck : Machine → Way → Type 0
 IsStuck t Fresh = ⊥
-IsStuck t Surveying = IsBlocked t ⊎ (IsUndrawn t × (nat_lt t.course.tally.draws 3 ≡ false))
+IsStuck t Surveying =
+    IsBlocked t
+    ⊎ (IsUndrawn t × (nat_lt t.course.tally.draws 3 ≡ false)
+    × (t.course.tally.is_heard ≡ true))
 
 abbrev pub Cause : Machine → End → Type 0
 Cause t AllFound = (t.course.opened ≡ true) × AllAreFound t t.course.way

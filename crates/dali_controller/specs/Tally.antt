@@ -29,6 +29,7 @@ abbrev pub uncounted : Tally
 uncounted = record {
   draws = 0;
   is_silent = false;
+  is_heard = false;
   calls = 0;
   askings = 0;
   is_missed = false;
@@ -47,17 +48,19 @@ silent_call t = record t { is_silent = true }
 abbrev pub heard_call : Tally → Tally
 heard_call t = record t {
   is_silent = false;
+  is_heard = true;
   calls = if nat_lt t.calls 3 then t.calls + 1 else t.calls;
 }
 
 -- gear draw new random addresses, or draw them for the last time: then all is counted anew
 abbrev pub drew : Tally → Tally
-drew t = record t { draws = t.draws + 1 }
+drew t = record t { draws = t.draws + 1; is_heard = false }
 
 abbrev pub drew_at_last : Tally → Tally
 drew_at_last t = record t {
   draws = 3;
   is_silent = false;
+  is_heard = false;
   calls = 0;
   failed = None;
   passed = none_passed;

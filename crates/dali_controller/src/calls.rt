@@ -139,7 +139,8 @@ impl State {
         }
     }
 
-    /// Some gear never drew a random address.
+    /// Some gear never drew a random address. If a roll call heard gear since they were to draw for the last time, it
+    /// gives up.
     fn undrawn(&mut self, kept: &Records<'_>) -> Order
         requires hunting { self.old.leg ≡ leg.Hunting (ascent_on self.old.leg) }
 
@@ -152,8 +153,10 @@ impl State {
         } else if self.tally.draws < DRAWS {
             self.tally.note_draw();
             self.begin(kept, Purpose::Drawing, BEFORE_DRAW)
-        } else {
+        } else if self.tally.is_heard {
             self.close(kept, End::GaveUp)
+        } else {
+            self.call(kept)
         }
     }
 

@@ -9,6 +9,8 @@ pub struct Tally {
     pub draws: u8,
     /// Whether the last roll call was silent.
     pub is_silent: bool,
+    /// Whether a roll call heard gear since gear were to draw last.
+    pub is_heard: bool,
     /// How many roll calls heard gear since a visit succeeded: 3 for more.
     pub calls: u8,
     /// How often short addresses were asked again because the block was full: at most six times.
@@ -59,6 +61,7 @@ impl Tally {
     pub const NONE: Tally = Tally {
         draws: 0,
         is_silent: false,
+        is_heard: false,
         calls: 0,
         askings: 0,
         is_missed: false,
@@ -104,6 +107,7 @@ impl Tally {
         ensures { self.new ≡ heard_call self.old }
     {
         self.is_silent = false;
+        self.is_heard = true;
         if self.calls < 3 {
             self.calls += 1;
         }
@@ -115,6 +119,7 @@ impl Tally {
         ensures { self.new ≡ drew self.old }
     {
         self.draws += 1;
+        self.is_heard = false;
     }
 
     /// Gear draw new random addresses for the last time, and all else is counted anew.
@@ -123,6 +128,7 @@ impl Tally {
     {
         self.draws = 3;
         self.is_silent = false;
+        self.is_heard = false;
         self.note_served();
     }
 

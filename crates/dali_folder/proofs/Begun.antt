@@ -1,5 +1,5 @@
-use Rattle.std.proofs.Common.{◌≡◌, ◌≢◌, ◌⊎◌, inl, inr, refl, sym, ◌∙◌, ap, subst, ℕ, List, [], ◌∷◌, ◌++◌}
-use Rattle.dali_folder.specs.Events.{Event, Creates, Writes, Syncs, Renames, Removes, SyncsFolder, Likens, AreBegun, IsPart}
+use Rattle.std.proofs.Common.{◌≡◌, ◌⊎◌, inl, inr, sym, ◌∙◌, ap, subst, ℕ, List, [], ◌∷◌}
+use Rattle.dali_folder.specs.Events.{Event, Writes, AreBegun, IsPart}
 
 abbrev pub IsWhole : Event → Type 0
 IsWhole (Writes name bytes) = ⊥

@@ -1,6 +1,7 @@
-mod Begun
+pub mod Begun
+mod Lost
 pub mod Moving
 pub mod Names
-mod Settled
+pub mod Settled
 pub mod Tried
 pub mod Writing

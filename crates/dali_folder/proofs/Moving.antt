@@ -1,175 +1,157 @@
-use Rattle.std.proofs.Common.{◌≡◌, ◌≢◌, ◌⊎◌, inl, inr, refl, sym, ◌∙◌, ap, subst, ℕ, List, [], ◌∷◌, ◌++◌, Bool, true, false, Option, Some, None}
+use Rattle.std.proofs.Common.{◌≡◌, ◌≢◌, ◌⊎◌, inl, inr, refl, sym, ◌∙◌, ap, subst, ℕ, List, [], ◌∷◌, Bool, true, false, Option, Some, None}
 use Rattle.std.specs.Prelude.{is_some, if◌then◌else◌}
 use Rattle.dali_folder.specs.Events.{Event, Renames, Removes, SyncsFolder, AreBegun, removing, renaming}
-use Rattle.dali_folder.specs.Folder.{Names, Folders, IsSettled, AreSame, AreSameBut, Happens, Happen, put, moved, moving, folder_of}
-use Rattle.dali_folder.proofs.Names.{decided, put_here, put_other, put_is, put_both, moving_both}
+use Rattle.dali_folder.specs.Folder.{Names, Folders, IsSettled, IsLeft, AreSame, Happens, Happen, put, moved, moving, folder_of}
+use Rattle.dali_folder.proofs.Names.{put_other, put_is, put_both, moving_both}
 use Rattle.dali_folder.proofs.Begun.{begun_one}
-use Rattle.dali_folder.proofs.Settled.{at, settles, disk_then}
+use Rattle.dali_folder.proofs.Settled.{at, waits, left_before, left_after, settles}
+use Rattle.dali_folder.proofs.Writing.{gone}
 
--- a file is removed
-module _ (name : List ℕ) (was s : Folders) (settled : IsSettled was) (happens : Happens (Removes name) was s) where
-  pub gone : (other : List ℕ) → s.holds other ≡ put name None was.holds other
-  gone other = at s.holds _ other happens.holds
+module _ (passing : List ℕ → Bool) where
+  -- WHAT IS DONE IN ONE FOLDER, and then that folder is synced
+  module _ (place : List ℕ) (before after : Names) (now : Folders) where
+    abbrev pub IsLeftSo : Folders → Type 0
+    IsLeftSo f = IsLeft passing place before after f
 
-  pub gone_bytes : (other : List ℕ) → s.is_synced other ≡ true
-  gone_bytes other = at s.is_synced _ other happens.bytes ∙ put_is name true was.is_synced other true (λ _. refl) (λ _. settled.bytes other)
+    pub stop_end : (begun : List Event) → AreBegun begun [] → (s : Folders) → IsLeftSo s → Happen begun s now → IsLeftSo now
+    stop_end [] b s left e = subst IsLeftSo e left
+    stop_end (d ∷ more) b s left h = absurd b
 
-  pub gone_names : (other : List ℕ) → other ≢ name → s.is_settled other ≡ true
-  gone_names other differs = at s.is_settled _ other happens.names ∙ put_other name false was.is_settled other differs ∙ settled.names other
+    pub at_last : (s t : Folders) → IsLeftSo s → AreSame passing s.holds after → Happens (SyncsFolder place) s t
+        → IsSettled passing t × AreSame passing t.holds after
+    at_last s t left holds happens =
+        let all = settles passing place s t happens place refl left.pending in (all.0, (λ other out. all.1 other out ∙ holds other out))
 
-  pub gone_disk : AreSame s.disk was.holds ⊎ AreSame s.disk (put name None was.holds)
-  gone_disk = elim (happens.disk) [
-    | inl same ↦ inl (λ other. same other ∙ settled.disk other)
-    | inr same ↦ inr (λ other. same other ∙ put_both name None was.disk was.holds other (λ _. settled.disk other))
-  ]
+    pub stop_settling : (begun : List Event) → AreBegun begun (SyncsFolder place ∷ []) → (s : Folders) → IsLeftSo s → AreSame passing s.holds after
+        → Happen begun s now → IsLeftSo now
+    stop_settling [] b s left holds e = subst IsLeftSo e left
+    stop_settling (d ∷ more) b s left holds (t, happens, rest) =
+        let both = begun_one (SyncsFolder place) d [] more tt b in
+        let all = at_last s t left holds (subst (λ (e : Event). Happens e s t) both.0 happens) in
+        stop_end more both.1 t (left_after passing place before after t all.0 all.1) rest
 
-  gone_beside : (other : List ℕ) → other ≢ name → s.disk other ≡ s.holds other
-  gone_beside other differs = elim (gone_disk) [
-    | inl same ↦ same other ∙ sym (gone other ∙ put_other name None was.holds other differs)
-    | inr same ↦ same other ∙ sym (gone other)
-  ]
+  -- a file is removed
+  module _ (name : List ℕ) (was s : Folders) (calm : IsSettled passing was) (happens : Happens (Removes name) was s) where
+    pub away : AreSame passing s.holds (put name None was.holds)
+    away other out = at s.holds _ other happens.holds
 
-  pub gone_settles : (t : Folders) → Happens (SyncsFolder name) s t → IsSettled t × AreSame t.holds (put name None was.holds)
-  gone_settles t syncs =
-      let all = settles name s t syncs gone_bytes (λ other far. let differs : other ≢ name = λ e. far (ap folder_of e) in
-      (gone_names other differs, gone_beside other differs)) in
-      (all.0, (λ other. all.1 other ∙ gone other))
-
-module _ (name : List ℕ) (was now : Folders) (settled : IsSettled was) where
-  abbrev pub IsLeft : Folders → Type 0
-  IsLeft f = AreSame f.disk was.holds ⊎ AreSame f.disk (put name None was.holds)
-
-  stop_end : (begun : List Event) → AreBegun begun [] → (s : Folders) → IsLeft s → Happen begun s now → IsLeft now
-  stop_end [] b s left e = subst IsLeft e left
-  stop_end (d ∷ more) b s left h = absurd b
-
-  stop_settling : (begun : List Event) → AreBegun begun (SyncsFolder name ∷ []) → (s : Folders) → Happens (Removes name) was s
-      → Happen begun s now → IsLeft now
-  stop_settling [] b s removes e = subst IsLeft e (gone_disk name was s settled removes)
-  stop_settling (d ∷ more) b s removes (t, happens, rest) =
-      let both = begun_one (SyncsFolder name) d [] more tt b in
-      let all = gone_settles name was s settled removes t (subst (λ (e : Event). Happens e s t) both.0 happens) in
-      stop_end more both.1 t (inr (λ other. all.0.disk other ∙ all.1 other)) rest
-
-  pub stop : (begun : List Event) → AreBegun begun (removing name) → Happen begun was now → IsLeft now
-  stop [] b e = subst IsLeft e (inl (λ other. settled.disk other))
-  stop (d ∷ more) b (t, happens, rest) =
-      let both = begun_one (Removes name) d (SyncsFolder name ∷ []) more tt b in
-      stop_settling more both.1 t (subst (λ (e : Event). Happens e was t) both.0 happens) rest
-
-  pub ended : Happen (removing name) was now → IsSettled now × AreSame now.holds (put name None was.holds)
-  ended (s, removes, (t, syncs, done)) =
-      subst (λ (f : Folders). IsSettled f × AreSame f.holds (put name None was.holds)) done (gone_settles name was s settled removes t syncs)
-
--- a file is renamed
-module _ (from to : List ℕ) (was s : Folders) (settled : IsSettled was) (happens : Happens (Renames from to) was s) where
-  pub away : (other : List ℕ) → s.holds other ≡ moved from to was.holds other
-  away other = at s.holds _ other happens.holds
-
-  pub away_bytes : (other : List ℕ) → s.is_synced other ≡ true
-  away_bytes other = at s.is_synced _ other happens.bytes ∙ go (is_some (was.holds from)) where
-    go : (b : Bool) → (if b then put to (was.is_synced from) (put from true was.is_synced) else was.is_synced) other ≡ true
-    go true = put_is to (was.is_synced from) (put from true was.is_synced) other true (λ _. settled.bytes from)
-        (λ _. put_is from true was.is_synced other true (λ _. refl) (λ _. settled.bytes other))
-    go false = settled.bytes other
-
-  pub away_names : (other : List ℕ) → other ≢ from → other ≢ to → s.is_settled other ≡ true
-  away_names other not_from not_to = at s.is_settled _ other happens.names ∙ put_other to false (put from false was.is_settled) other not_to
-      ∙ put_other from false was.is_settled other not_from ∙ settled.names other
-
-  pub away_disk : AreSame s.disk was.holds ⊎ AreSame s.disk (moved from to was.holds)
-  away_disk = elim (happens.disk) [
-    | inl same ↦ inl (λ other. same other ∙ settled.disk other)
-    | inr (file, may, same) ↦ inr (λ other. same other ∙ ap (λ o. moving o from to was.disk other) (may.1 (settled.bytes from))
-        ∙ moving_both (was.holds from) from to was.disk was.holds other (settled.disk other))
-  ]
-
-  unmoved : (o : Option (List ℕ)) (other : List ℕ) → other ≢ from → other ≢ to → moving o from to was.holds other ≡ was.holds other
-  unmoved None other not_from not_to = refl
-  unmoved (Some file) other not_from not_to =
-      put_other to (Some file) (put from None was.holds) other not_to ∙ put_other from None was.holds other not_from
-
-  away_beside : (other : List ℕ) → other ≢ from → other ≢ to → s.disk other ≡ s.holds other
-  away_beside other not_from not_to = elim (away_disk) [
-    | inl same ↦ same other ∙ sym (away other ∙ unmoved (was.holds from) other not_from not_to)
-    | inr same ↦ same other ∙ sym (away other)
-  ]
-
-  pub away_settles : folder_of from ≡ folder_of to → (t : Folders) → Happens (SyncsFolder to) s t
-      → IsSettled t × AreSame t.holds (moved from to was.holds)
-  away_settles near t syncs =
-      let all = settles to s t syncs away_bytes (λ other far.
-      let not_to : other ≢ to = λ e. far (ap folder_of e) in
-      let not_from : other ≢ from = λ e. far (ap folder_of e ∙ near) in
-      (away_names other not_from not_to, away_beside other not_from not_to)) in
-      (all.0, (λ other. all.1 other ∙ away other))
-
--- a file is renamed, once a log that was left there is removed
-module _ (log from to : List ℕ) (was now : Folders) (not_from : from ≢ log) (near : folder_of from ≡ folder_of to) (settled : IsSettled was) where
-  abbrev pub IsLeftSo : Folders → Type 0
-  IsLeftSo f = AreSameBut log f.disk was.holds ⊎ AreSameBut log f.disk (moved from to was.holds)
-
-  same_moved : (f : Names) → AreSame f (put log None was.holds) → (other : List ℕ) → other ≢ log
-      → moved from to f other ≡ moved from to was.holds other
-  same_moved f same other differs = ap (λ o. moving o from to f other) (same from ∙ put_other log None was.holds from not_from)
-      ∙ moving_both (was.holds from) from to f was.holds other (same other ∙ put_other log None was.holds other differs)
-
-  left_gone : (s : Folders) → Happens (Removes log) was s → IsLeftSo s
-  left_gone s removes = inl (λ other differs. elim (gone_disk log was s settled removes) [
-    | inl same ↦ same other
-    | inr same ↦ same other ∙ put_other log None was.holds other differs
-  ])
-
-  module _ (u : Folders) (known : IsSettled u × AreSame u.holds (put log None was.holds)) where
-    left_cleared : IsLeftSo u
-    left_cleared = inl (λ other differs. known.0.disk other ∙ known.1 other ∙ put_other log None was.holds other differs)
-
-    left_away : (v : Folders) → Happens (Renames from to) u v → IsLeftSo v
-    left_away v renames = elim (away_disk from to u v known.0 renames) [
-      | inl same ↦ inl (λ other differs. same other ∙ known.1 other ∙ put_other log None was.holds other differs)
-      | inr same ↦ inr (λ other differs. same other ∙ same_moved u.holds known.1 other differs)
+    away_disk : AreSame passing s.disk was.holds ⊎ AreSame passing s.disk (put name None was.holds)
+    away_disk = elim (happens.disk) [
+      | inl is ↦ inl (λ other out. is other ∙ calm.disk other out)
+      | inr is ↦ inr (λ other out. is other ∙ put_both name None was.disk was.holds other (λ _. calm.disk other out))
     ]
 
-    left_ended : (v w : Folders) → Happens (Renames from to) u v → Happens (SyncsFolder to) v w → IsLeftSo w
-    left_ended v w renames syncs =
-        let all = away_settles from to u v known.0 renames near w syncs in
-        inr (λ other differs. all.0.disk other ∙ all.1 other ∙ same_moved u.holds known.1 other differs)
+    pub away_left : IsLeft passing name was.holds (put name None was.holds) s
+    away_left = record {
+      pending = record {
+        bytes = λ other out. at s.is_synced _ other happens.bytes ∙ put_is name true was.is_synced other true (λ _. refl) (λ _. calm.bytes other out);
+        names = λ other out far. at s.is_settled _ other happens.names ∙ put_other name false was.is_settled other (λ e. far (ap folder_of e))
+            ∙ calm.names other out;
+        disk = λ other out far.
+            let is : put name None was.holds other ≡ was.holds other = put_other name None was.holds other (λ e. far (ap folder_of e)) in
+            elim (away_disk) [ inl same ↦ same other out | inr after ↦ after other out ∙ is ] ∙ sym (away other out ∙ is);
+      };
+      holds = inr away;
+      disk = away_disk;
+    }
 
-    stop_last : (begun : List Event) → AreBegun begun (SyncsFolder to ∷ []) → (v : Folders) → Happens (Renames from to) u v
-        → Happen begun v now → IsLeftSo now
-    stop_last [] b v renames e = subst IsLeftSo e (left_away v renames)
-    stop_last (d ∷ []) b v renames (w, happens, done) =
-        let both = begun_one (SyncsFolder to) d [] [] tt b in
-        subst IsLeftSo done (left_ended v w renames (subst (λ (e : Event). Happens e v w) both.0 happens))
-    stop_last (d ∷ f ∷ more) b v renames (w, happens, rest) = absurd ((begun_one (SyncsFolder to) d [] (f ∷ more) tt b).1)
+  module _ (name : List ℕ) (was now : Folders) (calm : IsSettled passing was) where
+    pub stop : (begun : List Event) → AreBegun begun (removing name) → Happen begun was now
+        → IsLeft passing name was.holds (put name None was.holds) now
+    stop [] b e = subst (IsLeftSo name was.holds (put name None was.holds) now) e (left_before passing name was.holds _ was calm (λ other out. refl))
+    stop (d ∷ more) b (t, happens, rest) =
+        let both = begun_one (Removes name) d (SyncsFolder name ∷ []) more tt b in
+        let removes : Happens (Removes name) was t = subst (λ (e : Event). Happens e was t) both.0 happens in
+        stop_settling name was.holds (put name None was.holds) now more both.1 t (away_left name was t calm removes) (away name was t calm removes) rest
 
-    stop_away : (begun : List Event) → AreBegun begun (Renames from to ∷ SyncsFolder to ∷ []) → Happen begun u now → IsLeftSo now
-    stop_away [] b e = subst IsLeftSo e left_cleared
-    stop_away (d ∷ more) b (v, happens, rest) =
+    pub ended : Happen (removing name) was now → IsSettled passing now × AreSame passing now.holds (put name None was.holds)
+    ended (s, removes, (t, syncs, done)) =
+        subst (λ (f : Folders). IsSettled passing f × AreSame passing f.holds (put name None was.holds)) done
+        (at_last name was.holds (put name None was.holds) now s t (away_left name was s calm removes) (away name was s calm removes) syncs)
+
+  -- a file is renamed
+  module _ (from to : List ℕ) (was u s : Folders) (near : folder_of from ≡ folder_of to) (out_ : passing from ≡ false)
+      (calm : IsSettled passing u) (same : AreSame passing u.holds was.holds) (happens : Happens (Renames from to) u s) where
+    pub moved_holds : AreSame passing s.holds (moved from to was.holds)
+    moved_holds other out = at s.holds _ other happens.holds ∙ ap (λ o. moving o from to u.holds other) (same from out_)
+        ∙ moving_both (was.holds from) from to u.holds was.holds other (same other out)
+
+    moved_disk : AreSame passing s.disk was.holds ⊎ AreSame passing s.disk (moved from to was.holds)
+    moved_disk = elim (happens.disk) [
+      | inl is ↦ inl (λ other out. is other ∙ calm.disk other out ∙ same other out)
+      | inr (file, may, is) ↦ inr (λ other out. is other ∙ ap (λ o. moving o from to u.disk other) (may.1 (calm.bytes from out_) ∙ same from out_)
+          ∙ moving_both (was.holds from) from to u.disk was.holds other (calm.disk other out ∙ same other out))
+    ]
+
+    unmoved : (o : Option (List ℕ)) (other : List ℕ) → folder_of other ≢ folder_of to → moving o from to was.holds other ≡ was.holds other
+    unmoved None other far = refl
+    unmoved (Some file) other far =
+        put_other to (Some file) (put from None was.holds) other (λ e. far (ap folder_of e))
+        ∙ put_other from None was.holds other (λ e. far (ap folder_of e ∙ near))
+
+    moved_bytes : (other : List ℕ) → passing other ≡ false → (b : Bool)
+        → (if b then put to (u.is_synced from) (put from true u.is_synced) else u.is_synced) other ≡ true
+    moved_bytes other out true = put_is to (u.is_synced from) (put from true u.is_synced) other true (λ _. calm.bytes from out_)
+        (λ _. put_is from true u.is_synced other true (λ _. refl) (λ _. calm.bytes other out))
+    moved_bytes other out false = calm.bytes other out
+
+    pub moved_left : IsLeft passing to was.holds (moved from to was.holds) s
+    moved_left = record {
+      pending = record {
+        bytes = λ other out. at s.is_synced _ other happens.bytes ∙ moved_bytes other out (is_some (u.holds from));
+        names = λ other out far. at s.is_settled _ other happens.names
+            ∙ put_other to false (put from false u.is_settled) other (λ e. far (ap folder_of e))
+            ∙ put_other from false u.is_settled other (λ e. far (ap folder_of e ∙ near)) ∙ calm.names other out;
+        disk = λ other out far.
+            elim (moved_disk) [ inl is ↦ is other out | inr is ↦ is other out ∙ unmoved (was.holds from) other far ]
+            ∙ sym (moved_holds other out ∙ unmoved (was.holds from) other far);
+      };
+      holds = inr moved_holds;
+      disk = moved_disk;
+    }
+
+  -- a file is renamed, once a log that was left there is removed
+  module _ (log from to : List ℕ) (was now : Folders) (hides : passing log ≡ true) (out_ : passing from ≡ false)
+      (near : folder_of from ≡ folder_of to) (calm : IsSettled passing was) where
+    abbrev pub IsLeftHere : Folders → Type 0
+    IsLeftHere f = IsLeft passing to was.holds (moved from to was.holds) f
+
+    as_before : (s : Folders) → IsSettled passing s → AreSame passing s.holds was.holds → IsLeftHere s
+    as_before s calm_ same = left_before passing to was.holds (moved from to was.holds) s calm_ same
+
+    cleared : (s t : Folders) → IsSettled passing s → AreSame passing s.holds was.holds → Happens (SyncsFolder log) s t
+        → IsSettled passing t × AreSame passing t.holds was.holds
+    cleared s t calm_ same syncs =
+        let all = settles passing log s t syncs log refl (waits passing log s calm_) in (all.0, (λ other out. all.1 other out ∙ same other out))
+
+    stop_away : (u : Folders) → IsSettled passing u → AreSame passing u.holds was.holds → (begun : List Event)
+        → AreBegun begun (Renames from to ∷ SyncsFolder to ∷ []) → Happen begun u now → IsLeftHere now
+    stop_away u calm_ same [] b e = subst IsLeftHere e (as_before u calm_ same)
+    stop_away u calm_ same (d ∷ more) b (v, happens, rest) =
         let both = begun_one (Renames from to) d (SyncsFolder to ∷ []) more tt b in
-        stop_last more both.1 v (subst (λ (e : Event). Happens e u v) both.0 happens) rest
+        let renames : Happens (Renames from to) u v = subst (λ (e : Event). Happens e u v) both.0 happens in
+        stop_settling to was.holds (moved from to was.holds) now more both.1 v (moved_left from to was u v near out_ calm_ same renames)
+        (moved_holds from to was u v near out_ calm_ same renames) rest
 
-  stop_cleared : (begun : List Event) → AreBegun begun (SyncsFolder log ∷ Renames from to ∷ SyncsFolder to ∷ []) → (s : Folders)
-      → Happens (Removes log) was s → Happen begun s now → IsLeftSo now
-  stop_cleared [] b s removes e = subst IsLeftSo e (left_gone s removes)
-  stop_cleared (d ∷ more) b s removes (u, happens, rest) =
-      let both = begun_one (SyncsFolder log) d (Renames from to ∷ SyncsFolder to ∷ []) more tt b in
-      let known = gone_settles log was s settled removes u (subst (λ (e : Event). Happens e s u) both.0 happens) in
-      stop_away u known more both.1 rest
+    stop_cleared : (begun : List Event) → AreBegun begun (SyncsFolder log ∷ Renames from to ∷ SyncsFolder to ∷ []) → (s : Folders)
+        → IsSettled passing s → AreSame passing s.holds was.holds → Happen begun s now → IsLeftHere now
+    stop_cleared [] b s calm_ same e = subst IsLeftHere e (as_before s calm_ same)
+    stop_cleared (d ∷ more) b s calm_ same (u, happens, rest) =
+        let both = begun_one (SyncsFolder log) d (Renames from to ∷ SyncsFolder to ∷ []) more tt b in
+        let all = cleared s u calm_ same (subst (λ (e : Event). Happens e s u) both.0 happens) in
+        stop_away u all.0 all.1 more both.1 rest
 
-  pub stop_renaming : (begun : List Event) → AreBegun begun (renaming log from to) → Happen begun was now → IsLeftSo now
-  stop_renaming [] b e = subst IsLeftSo e (inl (λ other _. settled.disk other))
-  stop_renaming (d ∷ more) b (s, happens, rest) =
-      let both = begun_one (Removes log) d (SyncsFolder log ∷ Renames from to ∷ SyncsFolder to ∷ []) more tt b in
-      stop_cleared more both.1 s (subst (λ (e : Event). Happens e was s) both.0 happens) rest
+    pub stop_renaming : (begun : List Event) → AreBegun begun (renaming log from to) → Happen begun was now → IsLeftHere now
+    stop_renaming [] b e = subst IsLeftHere e (as_before was calm (λ other out. refl))
+    stop_renaming (d ∷ more) b (s, happens, rest) =
+        let both = begun_one (Removes log) d (SyncsFolder log ∷ Renames from to ∷ SyncsFolder to ∷ []) more tt b in
+        let known = gone passing log hides was was s calm (λ other out. refl) (subst (λ (e : Event). Happens e was s) both.0 happens) in
+        stop_cleared more both.1 s known.0 known.1 rest
 
-  pub ended_renaming : Happen (renaming log from to) was now
-      → IsSettled now × AreSame now.holds (moved from to (put log None was.holds))
-  ended_renaming (s, removes, (u, syncs, (v, renames, (w, syncs_folder, done)))) =
-      let known = gone_settles log was s settled removes u syncs in
-      let all = away_settles from to u v known.0 renames near w syncs_folder in
-      subst (λ (f : Folders). IsSettled f × AreSame f.holds (moved from to (put log None was.holds))) done (
-        all.0,
-        (λ other. all.1 other ∙ ap (λ o. moving o from to u.holds other) (known.1 from)
-            ∙ moving_both (put log None was.holds from) from to u.holds (put log None was.holds) other (known.1 other)),
-      )
+    pub ended_renaming : Happen (renaming log from to) was now → IsSettled passing now × AreSame passing now.holds (moved from to was.holds)
+    ended_renaming (s, removes, (u, syncs, (v, renames, (w, syncs_folder, done)))) =
+        let known = gone passing log hides was was s calm (λ other out. refl) removes in
+        let all = cleared s u known.0 known.1 syncs in
+        subst (λ (f : Folders). IsSettled passing f × AreSame passing f.holds (moved from to was.holds)) done
+        (at_last to was.holds (moved from to was.holds) now v w (moved_left from to was u v near out_ all.0 all.1 renames)
+        (moved_holds from to was u v near out_ all.0 all.1 renames) syncs_folder)

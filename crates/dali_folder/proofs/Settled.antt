@@ -1,54 +1,94 @@
-use Rattle.std.proofs.Common.{◌≡◌, ◌≢◌, ◌⊎◌, inl, inr, refl, sym, ◌∙◌, ap, subst, ℕ, List, [], ◌∷◌, ◌++◌, Bool, true, false, Option, Some, None}
-use Rattle.std.specs.Prelude.{bytes_eq, if◌then◌else◌}
+use Rattle.std.proofs.Common.{◌≡◌, ◌≢◌, inl, inr, refl, sym, ◌∙◌, ap, ℕ, List, Bool, true, false}
+use Rattle.std.specs.Prelude.{bytes_eq}
 use Rattle.std.proofs.lemmas.Bool.{cond-true, cond-false}
 use Rattle.std.proofs.lemmas.Slice.Eq.{bytes_eq-Decides}
-use Rattle.dali_folder.specs.Events.{Event, SyncsFolder}
-use Rattle.dali_folder.specs.Folder.{Names, Folders, IsSettled, AreSame, AreSameBut, Happens, folder_of}
+use Rattle.dali_folder.specs.Events.{SyncsFolder}
+use Rattle.dali_folder.specs.Folder.{Names, Folders, IsSettled, IsPending, IsLeft, AreSame, Happens, restarted, folder_of}
 use Rattle.dali_folder.proofs.Names.{decided, not_same}
-
--- all but one name are as they were, and on the disk
-pub record IsQuiet (part : List ℕ) (was now : Folders) : Type 0 where
-  pub holds : AreSameBut part now.holds was.holds
-  pub bytes : (other : List ℕ) → other ≢ part → now.is_synced other ≡ true
-  pub names : (other : List ℕ) → other ≢ part → now.is_settled other ≡ true
-  pub disk : AreSameBut part now.disk was.holds
 
 pub at : {X : Type 0} (f g : List ℕ → X) (name : List ℕ) → f ≡ g → f name ≡ g name
 at f g name e = ap (λ h. h name) e
 
-pub quiet : (part : List ℕ) (was : Folders) → IsSettled was → IsQuiet part was was
-quiet part was settled = record {
-  holds = λ other _. refl;
-  bytes = λ other _. settled.bytes other;
-  names = λ other _. settled.names other;
-  disk = λ other _. settled.disk other;
-}
+module _ (passing : List ℕ → Bool) where
+  -- a name that passes is none of the others
+  pub apart : (other name : List ℕ) → passing other ≡ false → passing name ≡ true → other ≢ name
+  apart other name out hides same = let is = ap passing same in cc
 
--- once a folder is on the disk
-module _ (name : List ℕ) (s t : Folders) (happens : Happens (SyncsFolder name) s t) where
-  pub disk_then : (other : List ℕ) → s.is_synced other ≡ true → (folder_of other ≢ folder_of name → s.disk other ≡ s.holds other)
-      → t.disk other ≡ s.holds other
-  disk_then other bytes outside = elim (decided (folder_of other) (folder_of name)) [
-    | inl same ↦ ((happens.disk other).0 same).1 bytes
-    | inr differs ↦ (happens.disk other).1 differs ∙ outside differs
-  ]
+  pub anew : (names : Names) → IsSettled passing (restarted names)
+  anew names = record { bytes = λ at out. refl; names = λ at out. refl; disk = λ at out. refl }
 
-  pub settled_then : (other : List ℕ) → (folder_of other ≢ folder_of name → s.is_settled other ≡ true) → t.is_settled other ≡ true
-  settled_then other outside = at t.is_settled _ other happens.names ∙ elim (decided (folder_of other) (folder_of name)) [
-    | inl same ↦ cond-true (bytes_eq (folder_of other) (folder_of name)) true (s.is_settled other)
+  pub waits : (place : List ℕ) (f : Folders) → IsSettled passing f → IsPending passing place f
+  waits place f calm = record {
+    bytes = calm.bytes;
+    names = λ other out far. calm.names other out;
+    disk = λ other out far. calm.disk other out;
+  }
+
+  -- what is settled, and as before or as after
+  pub left_before : (place : List ℕ) (before after : Names) (f : Folders) → IsSettled passing f → AreSame passing f.holds before
+      → IsLeft passing place before after f
+  left_before place before after f calm same = record {
+    pending = waits place f calm;
+    holds = inl same;
+    disk = inl (λ other out. calm.disk other out ∙ same other out);
+  }
+
+  pub left_after : (place : List ℕ) (before after : Names) (f : Folders) → IsSettled passing f → AreSame passing f.holds after
+      → IsLeft passing place before after f
+  left_after place before after f calm same = record {
+    pending = waits place f calm;
+    holds = inr same;
+    disk = inr (λ other out. calm.disk other out ∙ same other out);
+  }
+
+  -- ONCE A FOLDER IS ON THE DISK, which is that in which something was done, or another one
+  module _ (name : List ℕ) (s t : Folders) (happens : Happens (SyncsFolder name) s t) where
+    held : (other : List ℕ) → t.holds other ≡ s.holds other
+    held other = at t.holds _ other happens.holds
+
+    far_settled : (other : List ℕ) → folder_of other ≢ folder_of name → t.is_settled other ≡ s.is_settled other
+    far_settled other differs = at t.is_settled _ other happens.names
+        ∙ cond-false (bytes_eq (folder_of other) (folder_of name)) true (s.is_settled other) (not_same (folder_of other) (folder_of name) differs)
+
+    near_settled : (other : List ℕ) → folder_of other ≡ folder_of name → t.is_settled other ≡ true
+    near_settled other same = at t.is_settled _ other happens.names
+        ∙ cond-true (bytes_eq (folder_of other) (folder_of name)) true (s.is_settled other)
         ((bytes_eq-Decides (folder_of other) (folder_of name)).1 same)
-    | inr differs ↦ cond-false (bytes_eq (folder_of other) (folder_of name)) true (s.is_settled other)
-        (not_same (folder_of other) (folder_of name) differs) ∙ outside differs
-  ]
 
-  pub settles : ((other : List ℕ) → s.is_synced other ≡ true)
-      → ((other : List ℕ) → folder_of other ≢ folder_of name → (s.is_settled other ≡ true) × (s.disk other ≡ s.holds other))
-      → IsSettled t × AreSame t.holds s.holds
-  settles bytes outside = (
-    record {
-      bytes = λ other. at t.is_synced _ other happens.bytes ∙ bytes other;
-      names = λ other. settled_then other (λ differs. (outside other differs).0);
-      disk = λ other. disk_then other (bytes other) (λ differs. (outside other differs).1) ∙ sym (at t.holds _ other happens.holds);
-    },
-    (λ other. at t.holds _ other happens.holds),
-  )
+    pub settles : (place : List ℕ) → folder_of place ≡ folder_of name → IsPending passing place s
+        → IsSettled passing t × AreSame passing t.holds s.holds
+    settles place near was = (
+      record {
+        bytes = λ other out. at t.is_synced _ other happens.bytes ∙ was.bytes other out;
+        names = λ other out. elim (decided (folder_of other) (folder_of name)) [
+          | inl same ↦ near_settled other same
+          | inr differs ↦ far_settled other differs ∙ was.names other out (λ e. differs (e ∙ near))
+        ];
+        disk = λ other out. elim (decided (folder_of other) (folder_of name)) [
+          | inl same ↦ ((happens.disk other).0 same).1 (was.bytes other out) ∙ sym (held other)
+          | inr differs ↦ (happens.disk other).1 differs ∙ was.disk other out (λ e. differs (e ∙ near)) ∙ sym (held other)
+        ];
+      },
+      λ other out. held other,
+    )
+
+    pub stays : (place : List ℕ) → folder_of place ≢ folder_of name → IsPending passing place s
+        → IsPending passing place t × AreSame passing t.holds s.holds × AreSame passing t.disk s.disk
+    stays place far was = (
+      record {
+        bytes = λ other out. at t.is_synced _ other happens.bytes ∙ was.bytes other out;
+        names = λ other out away. elim (decided (folder_of other) (folder_of name)) [
+          | inl same ↦ near_settled other same
+          | inr differs ↦ far_settled other differs ∙ was.names other out away
+        ];
+        disk = λ other out away. as_was other out ∙ was.disk other out away ∙ sym (held other);
+      },
+      (λ other out. held other),
+      as_was,
+    )
+      where
+        as_was : AreSame passing t.disk s.disk
+        as_was other out = elim (decided (folder_of other) (folder_of name)) [
+          | inl same ↦ ((happens.disk other).0 same).1 (was.bytes other out) ∙ sym (was.disk other out (λ e. far (sym e ∙ same)))
+          | inr differs ↦ (happens.disk other).1 differs
+        ]

@@ -2,7 +2,6 @@ use Rattle.std.specs.Prelude.{◌≡◌, ◌≢◌, ◌⊎◌, ◌↔◌, ◌==�
 use Rattle.std.specs.Prelude.{◌++◌, ◌||◌, Option, Some, None, IsSome, is_some, option_map, bytes_eq}
 use Rattle.std.specs.Prelude.{if◌then◌else◌}
 use Rattle.dali_folder.specs.Events.{Event, Creates, Writes, Syncs, Renames, Removes, SyncsFolder}
-use Rattle.dali_folder.specs.Events.{Likens}
 
 -- WHAT NAMES HAVE: each a file with these bytes, or nothing
 abbrev pub Names : Type 0
@@ -20,12 +19,15 @@ moving (Some file) from to names = put to (Some file) (put from None names)
 abbrev pub moved : List ℕ → List ℕ → Names → Names
 moved from to names = moving (names from) from to names
 
-abbrev pub AreSame : Names → Names → Type 0
-AreSame now was = (name : List ℕ) → now name ≡ was name
+abbrev pub IsSame : Names → Names → Type 0
+IsSame now was = (name : List ℕ) → now name ≡ was name
 
--- the same, but for one name
-abbrev pub AreSameBut : List ℕ → Names → Names → Type 0
-AreSameBut name now was = (other : List ℕ) → other ≢ name → now other ≡ was other
+-- the same, but for names that pass: what has them has no meaning to a later call
+abbrev pub AreSame : (List ℕ → Bool) → Names → Names → Type 0
+AreSame passing now was = (name : List ℕ) → passing name ≡ false → now name ≡ was name
+
+abbrev pub IsEither : (List ℕ → Bool) → Names → Names → Names → Type 0
+IsEither passing now before after = AreSame passing now before ⊎ AreSame passing now after
 
 -- the folder of a name: all up to the last `/`
 abbrev pub has_slash : List ℕ → Bool
@@ -45,11 +47,26 @@ pub record Folders : Type 0 where
   pub is_settled : List ℕ → Bool
   pub disk : Names
 
--- all is on the disk
-pub record IsSettled (folders : Folders) : Type 0 where
-  pub bytes : (name : List ℕ) → folders.is_synced name ≡ true
-  pub names : (name : List ℕ) → folders.is_settled name ≡ true
-  pub disk : AreSame folders.disk folders.holds
+-- all is on the disk, but for names that pass
+pub record IsSettled (passing : List ℕ → Bool) (folders : Folders) : Type 0 where
+  pub bytes : (name : List ℕ) → passing name ≡ false → folders.is_synced name ≡ true
+  pub names : (name : List ℕ) → passing name ≡ false → folders.is_settled name ≡ true
+  pub disk : AreSame passing folders.disk folders.holds
+
+-- all but what was done in the folder of a name
+pub record IsPending (passing : List ℕ → Bool) (place : List ℕ) (folders : Folders) : Type 0 where
+  pub bytes : (name : List ℕ) → passing name ≡ false → folders.is_synced name ≡ true
+  pub names : (name : List ℕ) → passing name ≡ false → folder_of name ≢ folder_of place
+      → folders.is_settled name ≡ true
+  pub disk : (name : List ℕ) → passing name ≡ false → folder_of name ≢ folder_of place
+      → folders.disk name ≡ folders.holds name
+
+-- A STOP leaves names as before or as after: of programs (a kill), and of the disk (a crash)
+pub record IsLeft (passing : List ℕ → Bool) (place : List ℕ) (before after : Names)
+    (folders : Folders) : Type 0 where
+  pub pending : IsPending passing place folders
+  pub holds : IsEither passing folders.holds before after
+  pub disk : IsEither passing folders.disk before after
 
 -- as it is after a crash that left this
 abbrev pub restarted : Names → Folders
@@ -106,16 +123,16 @@ abbrev pub MayLeave : Event → Folders → Names → Type 0
 MayLeave (Creates name) was disk = MayBeWritten name was disk
 MayLeave (Writes name bytes) was disk = MayBeWritten name was disk
 MayLeave (Renames from to) was disk =
-    AreSame disk was.disk
+    IsSame disk was.disk
     ⊎ ((file : Option (List ℕ))
     × MayBe was from file
-    × AreSame disk (moving file from to was.disk))
-MayLeave (Removes name) was disk = AreSame disk was.disk ⊎ AreSame disk (put name None was.disk)
+    × IsSame disk (moving file from to was.disk))
+MayLeave (Removes name) was disk = IsSame disk was.disk ⊎ IsSame disk (put name None was.disk)
 MayLeave (SyncsFolder name) was disk =
     (other : List ℕ)
     → (folder_of other ≡ folder_of name → MayBe was other (disk other))
     × (folder_of other ≢ folder_of name → disk other ≡ was.disk other)
-MayLeave _ was disk = AreSame disk was.disk
+MayLeave _ was disk = IsSame disk was.disk
 
 -- AN EVENT HAPPENS, from folders before it to those after it
 pub record Happens (event : Event) (was now : Folders) : Type 0 where

@@ -26,11 +26,11 @@ pub fn write_whole<D: Folder>(folder: &mut D, part: &str, name: &str, text: &str
 }
 
 /// Removes a file, if it is there.
-pub fn remove_whole<D: Folder>(folder: &mut D, name: &str) -> io::Result<()>
-    ensures { AreTried D.did (removing name.now) folder.old folder.new result }
+pub fn remove_whole<D: Folder>(folder: &mut D, at: &str) -> io::Result<()>
+    ensures { AreTried D.did (removing at.now) folder.old folder.new result }
 {
-    folder.remove(name)?;
-    folder.sync_folder(name)
+    folder.remove(at)?;
+    folder.sync_folder(at)
 }
 
 /// Gives a file another name in its folder. `log` is the name of what would be taken for the log of a file with that

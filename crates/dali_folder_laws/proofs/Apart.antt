@@ -1,6 +1,6 @@
 use Rattle.std.proofs.Common.{◌≡◌, ℕ, zero, suc, ◌+◌, ◌<◌, ◌≤◌, ◌/◌, ◌%◌, Bool, true, false}
 use Rattle.std.proofs.Common.{List, [], ◌∷◌, ◌++◌, Option, Some, None, refl, ap, subst, sym, ◌∙◌, arith, length}
-use Rattle.std.specs.Prelude.{◌≢◌, ◌==◌, IsSome, is_some, if◌then◌else◌, cond, ltb, codes, decimal, slice_get, option_map, string_bytes}
+use Rattle.std.specs.Prelude.{◌==◌, IsSome, is_some, if◌then◌else◌, cond, ltb, codes, decimal, slice_get, option_map, string_bytes}
 use Rattle.std.specs.Fmt.{digit_glyph, digits_onto, digits}
 use Rattle.std.proofs.lemmas.List.{append_assoc, append_cancel_right}
 use Rattle.std.proofs.lemmas.Option.{slice_get_within}
@@ -9,7 +9,7 @@ use Rattle.dali_replacement.specs.declared.swapping.Swap.{Swap}
 use Rattle.dali_replacement.specs.Swapping.{names_of, number_of}
 use Rattle.dali_commission_stores.specs.Settling.{new_at, journal_at, kept_at, IsNamed, count_of}
 use Rattle.dali_folder_laws.specs.Folder.{Folder}
-use Rattle.dali_folder_laws.specs.Moments.{Part, Itself, New, Journal, Old, name_with, IsPart, AreApart, Differ, MayBegin, Files, IsBefore}
+use Rattle.dali_folder_laws.specs.Moments.{Part, Itself, New, Journal, Old, name_with, AreApart, Differ, MayBegin, Files, IsBefore}
 use Rattle.dali_folder_laws.proofs.Looked.{counted}
 
 -- THE LAST SIGN of a text

@@ -1,13 +1,12 @@
 use Rattle.std.proofs.Common.{◌≡◌, ℕ, zero, suc, ◌⊎◌, inl, inr, Bool, true, false, List, [], ◌∷◌, ◌++◌, Option, Some, None, refl, ap, subst, sym, ◌∙◌}
-use Rattle.std.specs.Prelude.{◌≢◌, ◌↔◌, IsTrue, IsSome, is_some, bytes_eq, if◌then◌else◌, string_bytes, codes, decimal}
+use Rattle.std.specs.Prelude.{◌≢◌, IsSome, is_some, bytes_eq, if◌then◌else◌, string_bytes, codes, decimal}
 use Rattle.std.specs.declared.{alloc.Global.Global, string.String.String}
 use Rattle.std.proofs.lemmas.Slice.Eq.{bytes_eq-Decides}
 use Rattle.std.proofs.lemmas.List.{append-nil, append_assoc, append_cancel_right}
-use Rattle.dali_script.specs.Records.{Kept}
 use Rattle.dali_commission_stores.specs.Calls.{Call, Renamed, AreMade}
 use Rattle.dali_commission_stores.specs.Keeping.{AreFree}
 use Rattle.dali_commission_stores.specs.Settling.{kept_at}
-use Rattle.dali_commission_cleared.specs.Clearing.{asides, AddsFilled, AreFilled, AreRenamed}
+use Rattle.dali_commission_cleared.specs.Clearing.{asides, AddsFilled, AreFilled}
 use Rattle.dali_folder_laws.specs.Folder.{Folder, IsSame, IsAfter}
 use Rattle.dali_folder_laws.specs.Stops.{Program, starting, HasMade, Makes, Sees}
 use Rattle.dali_folder_laws.specs.Asides.{PutsAside, AreAway, HasStill, PutAsideOften, HasBehind}

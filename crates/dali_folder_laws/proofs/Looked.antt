@@ -1,16 +1,16 @@
 use Rattle.std.proofs.Common.{◌≡◌, ℕ, zero, suc, ◌+◌, ◌*◌, ◌<◌, ◌≤◌, ◌⊎◌, inl, inr, Bool, true, false, List, [], ◌∷◌, ◌++◌}
-use Rattle.std.proofs.Common.{Option, Some, None, refl, ap, subst, sym, ◌∙◌, arith, length}
-use Rattle.std.specs.Prelude.{slice_get, option_map, string_bytes, is_some, min}
+use Rattle.std.proofs.Common.{Option, Some, refl, ap, subst, sym, ◌∙◌, arith, length}
+use Rattle.std.specs.Prelude.{slice_get, option_map, string_bytes, is_some}
 use Rattle.std.proofs.lemmas.List.{append-nil, append_assoc}
 use Rattle.std.specs.declared.{alloc.Global.Global, string.String.String}
 use Rattle.dali_replacement.specs.declared.swap.Lies.{Lies}
 use Rattle.dali_replacement.specs.declared.swapping.Swap.{Swap}
 use Rattle.dali_replacement.specs.Swap.{lies_at, AreAt}
-use Rattle.dali_replacement.specs.Swapping.{names_of, number_of, swap_text}
+use Rattle.dali_replacement.specs.Swapping.{names_of, number_of}
 use Rattle.dali_commission_stores.specs.Calls.{Look}
 use Rattle.dali_commission_stores.specs.Seen.{LiesSo, AreLying, IsMoment}
 use Rattle.dali_commission_stores.specs.Settling.{IsNamed, count_of}
-use Rattle.dali_folder_laws.specs.Moments.{Part, Itself, New, Journal, Old, Files, MayBegin, if_there, IsAt}
+use Rattle.dali_folder_laws.specs.Moments.{Itself, New, Journal, Old, Files, if_there, IsAt}
 use Rattle.dali_folder_laws.specs.Stops.{Program, Sees}
 use Rattle.dali_folder_laws.proofs.Times.{IsLikewise, unique}
 

@@ -1,14 +1,13 @@
-use Rattle.std.proofs.Common.{◌≡◌, ℕ, ◌+◌, ◌<◌, ◌≤◌, ◌⊎◌, inl, inr, Bool, true, false, List, Option, Some, None, refl, ap, subst, sym, ◌∙◌, arith}
-use Rattle.std.specs.Prelude.{◌≢◌, ◌==◌, option_map, slice_get, string_bytes}
-use Rattle.std.proofs.lemmas.Bool.Decides.{nat_tests}
+use Rattle.std.proofs.Common.{◌≡◌, ℕ, ◌+◌, ◌<◌, ◌⊎◌, inl, inr, List, Some, refl, ap, subst, sym, ◌∙◌, arith}
+use Rattle.std.specs.Prelude.{◌≢◌}
 use Rattle.std.proofs.lemmas.Option.{same_Some}
 use Rattle.dali_replacement.specs.declared.swap.{Lies.Lies, Step.Step}
 use Rattle.dali_replacement.specs.declared.swap.Step.TheVariants.{Announce, SetAside, Place, Forget}
 use Rattle.dali_replacement.specs.declared.swapping.Swap.{Swap}
 use Rattle.dali_replacement.specs.Swap.{lies_at, step_after, file_of, done}
-use Rattle.dali_replacement.specs.Swapping.{names_of, number_of, swap_text}
+use Rattle.dali_replacement.specs.Swapping.{number_of, swap_text}
 use Rattle.dali_replacement.proofs.Moments.{within, own, others, back, others_back}
-use Rattle.dali_commission_stores.specs.Calls.{Call, Wrote, Renamed, Likened, Removed}
+use Rattle.dali_commission_stores.specs.Calls.{Wrote, Renamed, Removed}
 use Rattle.dali_commission_stores.specs.Settling.{new_at, journal_at, kept_at, IsNamed, IsDone, count_of}
 use Rattle.dali_folder_laws.specs.Folder.{Folder, IsSame, IsAfter, IsCalled}
 use Rattle.dali_folder_laws.specs.Moments.{Part, Itself, New, Journal, Old, name_with, IsPart, AreApart, Files, part_of, IsAt}

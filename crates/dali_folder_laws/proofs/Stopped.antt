@@ -1,15 +1,18 @@
 use Rattle.std.proofs.Common.{◌≡◌, ℕ, zero, suc, ◌+◌, ◌*◌, ◌<◌, ◌≤◌, ◌⊎◌, inl, inr, Bool, true, false, List, [], ◌∷◌}
-use Rattle.std.proofs.Common.{Option, Some, None, refl, ap, subst, sym, ◌∙◌, arith}
+use Rattle.std.proofs.Common.{Some, None, refl, subst, ◌∙◌, arith}
 use Rattle.dali_replacement.specs.declared.swap.Step.{Step}
 use Rattle.dali_replacement.specs.declared.swap.Step.TheVariants.{Announce, SetAside, Place, Forget}
 use Rattle.dali_replacement.specs.declared.swapping.Swap.{Swap}
+use Rattle.std.specs.declared.{alloc.Global.Global, string.String.String}
+use Rattle.std.specs.Prelude.{string_bytes}
 use Rattle.dali_replacement.specs.Swap.{step_after}
-use Rattle.dali_commission_stores.specs.Calls.{Call, Wrote, Renamed, Likened, Removed, AreMade}
-use Rattle.dali_commission_stores.specs.Settling.{IsNamed, IsDone, count_of, GoesOn, GoesBack}
+use Rattle.dali_commission_stores.specs.Calls.{Call, Synced, AreMade}
+use Rattle.dali_commission_stores.specs.Settled.{syncing}
+use Rattle.dali_commission_stores.specs.Settling.{IsDone, count_of, GoesOn, GoesBack}
 use Rattle.dali_folder_laws.specs.Folder.{Folder, IsSame, IsAfter}
 use Rattle.dali_folder_laws.specs.Moments.{AreApart, Files, IsAt, IsAtSome}
 use Rattle.dali_folder_laws.specs.Stops.{Program, HasMade, Makes}
-use Rattle.dali_folder_laws.proofs.Times.{not_last, last}
+use Rattle.dali_folder_laws.proofs.Times.{last}
 use Rattle.dali_folder_laws.proofs.Parts.{same_at, announced, kept, put, forgotten, taken_back}
 
 -- A PROGRAM AT A MOMENT: if it runs still, its folder is at that one; if it was stopped, at some one
@@ -35,6 +38,14 @@ once swap files m l call x y inside well stands made = go x.runs y.runs refl ref
     go true false isA isB stopped = (left (stands.1 isA) stopped, λ runs. absurd (cc))
     go false true isA isB not = absurd (not)
     go false false isA isB same = (same_at_some swap files x.folder y.folder stands.0 same, λ runs. absurd (cc))
+
+-- what syncs folders changes nothing of what programs see
+pub synced : (swap : Swap) (files : Files) (m : ℕ) (names : List (String Global)) (x y : Program) → m ≤ 4 * count_of swap
+    → AreMade Makes (syncing names) x y → Stands swap files m x → Stands swap files m y
+synced swap files m [] x y inside same stands = subst (λ (p : Program). Stands swap files m p) same stands
+synced swap files m (name ∷ more) x y inside (z, first, rest) stands =
+    synced swap files m more z y inside rest
+    (once swap files m m (Synced (string_bytes name)) x z inside (same_at swap files m x.folder z.folder) stands first)
 
 -- a program that was stopped does nothing more
 pub idle : (call : Call) (x y : Program) → x.runs ≡ false → Makes x y call
@@ -105,3 +116,12 @@ goes_nowhere swap from to (s ∷ more) x y (due, under, (z, first, rest)) stoppe
     let one = none_done _ x z first.2 stopped in
     let all = goes_nowhere swap (from + 1) to more z y rest one.0 in
     (all.0, λ at. all.1 at ∙ one.1 at)
+
+pub goes_back_nowhere : (swap : Swap) (m : ℕ) (x y : Program) → GoesBack Makes swap m x y → x.runs ≡ false
+    → (y.runs ≡ false) × IsSame x.folder y.folder
+goes_back_nowhere swap zero x y same stopped =
+    subst (λ (p : Program). (p.runs ≡ false) × IsSame x.folder p.folder) same (stopped, λ at. refl)
+goes_back_nowhere swap (suc m) x y (z, (name, named, (w, call, end)), rest) stopped =
+    let one = idle _ x w stopped call in
+    let all = goes_back_nowhere swap m z y rest (subst (λ (p : Program). p.runs ≡ false) end one.0) in
+    (all.0, λ at. all.1 at ∙ subst (λ (p : Program). p.folder at ≡ x.folder at) end (one.1 at))

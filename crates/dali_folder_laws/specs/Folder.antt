@@ -1,6 +1,6 @@
 use Rattle.std.specs.Prelude.{◌≡◌, ◌≢◌, ◌⊎◌, ◌++◌, ℕ, true, List, Option, Some, None, is_some}
 use Rattle.std.specs.Prelude.{[], codes}
-use Rattle.dali_commission_stores.specs.Calls.{Call, Wrote, Renamed, Likened, Removed}
+use Rattle.dali_commission_stores.specs.Calls.{Call, Wrote, Renamed, Likened, Removed, Synced}
 use Rattle.dali_commission_stores.specs.Calls.{Opened, Closed, Alone}
 use Rattle.dali_commission_stores.specs.Calls.{Look, Has, Text, Lies, Read}
 
@@ -27,6 +27,7 @@ IsAfter (Renamed from to) x y =
     × ((at : List ℕ) → at ≢ from → at ≢ to → y at ≡ x at)
 IsAfter (Likened name to) x y = IsSame x y
 IsAfter (Removed name) x y = (y name ≡ None) × ((at : List ℕ) → at ≢ name → y at ≡ x at)
+IsAfter (Synced name) x y = IsSame x y
 IsAfter (Opened name) x y = IsUsed name x y
 IsAfter (Closed name) x y = IsUsed name x y
 

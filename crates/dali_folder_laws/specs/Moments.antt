@@ -1,4 +1,4 @@
-use Rattle.std.specs.Prelude.{◌≡◌, ◌≢◌, ◌≤◌, ◌<◌, ℕ, ◌*◌, Bool, true, false, if◌then◌else◌, List}
+use Rattle.std.specs.Prelude.{◌≡◌, ◌≢◌, ◌≤◌, ◌<◌, ℕ, ◌*◌, Bool, if◌then◌else◌, List}
 use Rattle.std.specs.Prelude.{length, Option, Some, None}
 use Rattle.dali_replacement.specs.declared.swap.Lies.{Lies}
 use Rattle.dali_replacement.specs.declared.swapping.Swap.{Swap}

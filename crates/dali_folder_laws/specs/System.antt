@@ -1,10 +1,11 @@
-use Rattle.std.specs.Prelude.{◌≡◌, ◌≢◌, ℕ, zero, suc, Bool, true, false, if◌then◌else◌, List, []}
-use Rattle.std.specs.Prelude.{◌∷◌, None, IsSome}
-use Rattle.dali_folder.specs.Events.{Event, Likens, AreBegun, writing, removing, renaming}
+use Rattle.std.specs.Prelude.{◌≡◌, ◌≢◌, ◌⊎◌, ℕ, zero, suc, Bool, true, false, if◌then◌else◌, List}
+use Rattle.std.specs.Prelude.{[], ◌∷◌, None, IsSome}
+use Rattle.dali_folder.specs.Events.{Event, Likens, SyncsFolder, AreBegun, writing, removing}
+use Rattle.dali_folder.specs.Events.{renaming}
 use Rattle.dali_folder.specs.Folder.{Names, Folders, Happen, restarted, folder_of}
 use Rattle.dali_replacement.specs.declared.swapping.Swap.{Swap}
 use Rattle.dali_replacement.specs.Swapping.{number_of}
-use Rattle.dali_commission_stores.specs.Calls.{Call, Wrote, Renamed, Likened, Removed}
+use Rattle.dali_commission_stores.specs.Calls.{Call, Wrote, Renamed, Likened, Removed, Synced}
 use Rattle.dali_commission_stores.specs.Calls.{Opened, Closed, Look}
 use Rattle.dali_commission_stores.specs.Settled.{IsSettled, IsExchanged}
 use Rattle.dali_commission_stores.specs.Settling.{new_at, journal_at, kept_at, IsNamed}
@@ -21,16 +22,13 @@ asked_by part log (Wrote name text) = writing (part name) name text
 asked_by part log (Renamed from to) = renaming (log to) from to
 asked_by part log (Likened name to) = Likens name to ∷ []
 asked_by part log (Removed name) = removing name
+asked_by part log (Synced name) = SyncsFolder name ∷ []
 asked_by part log (Opened name) = []
 asked_by part log (Closed name) = []
 
--- such names belong to these, and lie in their folders; a file is renamed within its folder, and no
--- records are opened
+-- such names belong to these; a file is renamed within its folder, and no records are opened
 abbrev pub AreFit : (List ℕ → Bool) → (part log : List ℕ → List ℕ) → Call → Type 0
-AreFit passing part log (Wrote name text) =
-    (passing name ≡ false)
-    × (passing (part name) ≡ true)
-    × (folder_of (part name) ≡ folder_of name)
+AreFit passing part log (Wrote name text) = (passing name ≡ false) × (passing (part name) ≡ true)
 AreFit passing part log (Renamed from to) =
     (passing from ≡ false)
     × (passing to ≡ false)
@@ -39,6 +37,7 @@ AreFit passing part log (Renamed from to) =
     × (folder_of from ≡ folder_of to)
 AreFit passing part log (Likened name to) = Unit {0}
 AreFit passing part log (Removed name) = passing name ≡ false
+AreFit passing part log (Synced name) = Unit {0}
 AreFit passing part log (Opened name) = ⊥
 AreFit passing part log (Closed name) = ⊥
 
@@ -48,7 +47,8 @@ IsThere (Renamed from to) names = IsSome (names from)
 IsThere _ names = Unit {0}
 
 -- A MACHINE that runs a program: whether it runs still, and its folders. It may stop within what a
--- call asks of it; then it starts anew from what its disk has.
+-- call asks of it: the program is killed, and the next one goes on from what programs see then; or
+-- the system stops, and starts anew from what its disk has.
 pub record Machine : Type 0 where
   pub runs : Bool
   pub folders : Folders
@@ -64,7 +64,7 @@ HasAsked part log true false x y call =
     × (at : Folders)
     × AreBegun begun (asked_by part log call)
     × Happen begun x at
-    × (y ≡ restarted at.disk)
+    × ((y ≡ at) ⊎ (y ≡ restarted at.disk))
 HasAsked part log false true x y call = ⊥
 HasAsked part log false false x y call = x ≡ y
 
@@ -74,8 +74,8 @@ Asks part log x y call = HasAsked part log x.runs y.runs x.folders y.folders cal
 abbrev pub Looks : Machine → Look → Type 0
 Looks x look = x.runs ≡ true → IsTrueOf look x.folders.holds
 
--- WHAT IS BESIDE THE FILES of a swap fits: only a part of a journal passes, and a log; and all of
--- it lies in the folder of its file
+-- WHAT IS BESIDE THE FILES of a swap fits: only a part of a journal passes, and a log; and a file
+-- is kept in its folder
 abbrev pub IsFit : (List ℕ → Bool) → (part log : List ℕ → List ℕ) → ℕ → List ℕ → Type 0
 IsFit passing part log number name =
     AreFit passing part log (Wrote (journal_at name) [])

@@ -95,25 +95,27 @@ pub fn a_new_file_is_used_or_put_aside()
         → IsAside Makes Sees (λ _. Unit {0}) name (starting x) y → y.runs ≡ true → y.folder (new_at name) ≡ None }
 {}
 
-/// THE SYSTEM LEAVES NO MORE: a call that is stopped within what it asks of the system leaves a folder as before it or
-/// as after it, and one that ends well leaves it as after it, on the disk.
+/// THE SYSTEM LEAVES NO MORE: a call that is stopped within what it asks of the system leaves folders as before it or
+/// as after it, as programs see them and on the disk; and one that ends well leaves them as after it, on the disk.
 pub fn the_system_leaves_what_a_stop_leaves()
     ensures stops { (passing : List ℕ → Bool) (part log : List ℕ → List ℕ) (call : Call) (begun : List Event)
-        (was now : Folders) → AreFit passing part log call → IsSettled was → AreBegun begun (asked_by part log call)
-        → Happen begun was now → Leaves call (but_for passing was.holds) (but_for passing now.disk) }
+        (was now : Folders) → AreFit passing part log call → IsSettled passing was
+        → AreBegun begun (asked_by part log call) → Happen begun was now
+        → Leaves call (but_for passing was.holds) (but_for passing now.holds)
+        × Leaves call (but_for passing was.holds) (but_for passing now.disk) }
     ensures ends { (passing : List ℕ → Bool) (part log : List ℕ → List ℕ) (call : Call) (was now : Folders)
-        → AreFit passing part log call → IsSettled was → IsThere call was.holds
+        → AreFit passing part log call → IsSettled passing was → IsThere call was.holds
         → Happen (asked_by part log call) was now
-        → IsSettled now × IsAfter call (but_for passing was.holds) (but_for passing now.holds) }
+        → IsSettled passing now × IsAfter call (but_for passing was.holds) (but_for passing now.holds) }
 {}
 
-/// AN EXCHANGE OVER A CRASH OF THE SYSTEM. Machines exchange files and settle that, each of which may stop within what
-/// any call asks of the system, and starts anew from what its disk has. One that does not stop ends it, on the disk:
-/// with each file exchanged, or as before.
+/// AN EXCHANGE OVER KILLS AND CRASHES. Machines exchange files and settle that, each of which may stop within what any
+/// call asks of the system: its program is killed, and the next one goes on from what programs see then; or it starts
+/// anew from what its disk has. One that does not stop ends it, on the disk: with each file exchanged, or as before.
 pub fn an_exchange_ends_over_every_crash()
     ensures { (passing : List ℕ → Bool) (part log : List ℕ → List ℕ) (swap : Swap) (files : Files) (often : ℕ)
-        (x z : Folders) (y w : Machine) (done : Bool) → MayBegin swap → Fits passing part log swap → IsSettled x
-        → IsBefore swap files (but_for passing x.holds) → MachineExchanges part log swap x y
+        (x z : Folders) (y w : Machine) (done : Bool) → MayBegin swap → Fits passing part log swap
+        → IsSettled passing x → IsBefore swap files (but_for passing x.holds) → MachineExchanges part log swap x y
         → MachinesSettle part log swap often y.folders z → MachineSettles part log swap z w done → w.runs ≡ true
-        → IsSettled w.folders × ended_as swap files done (but_for passing w.folders.holds) }
+        → IsSettled passing w.folders × ended_as swap files done (but_for passing w.folders.holds) }
 {}

@@ -3,15 +3,16 @@ use Rattle.dali_frame.specs.declared.frames.Answer.{Answer}
 use Rattle.dali_wire.specs.declared.window.Window.{Window}
 use Rattle.dali_wire.specs.Windows.{told_after, window_at}
 use Rattle.dali_port.specs.declared.orders.{Order.Order, Refusal.Refusal}
-use Rattle.dali_port.specs.declared.state.{Port.Port, Phase.Phase}
-use Rattle.dali_port.specs.declared.state.Phase.TheVariants.{Free, Waiting, Sending, Breaking, Listening}
-use Rattle.dali_port.specs.declared.state.Sending.{Sending as Sent}
+use Rattle.dali_port.specs.State.{Port, Phase}
+use Rattle.dali_port.specs.State.{Free, Waiting, Sending, Breaking, Listening}
+use Rattle.dali_port.specs.State.{Sent}
+use Rattle.dali_port.specs.State.{window_of}
 use Rattle.dali_port.specs.Orders.{is_later}
 use Rattle.dali_port.specs.Frames.{begun_at}
-use Rattle.dali_port.specs.Ports.{read_at, has_no_power, is_broken_off, listened_by, since_edge, until_in, until, edge_in, edged, lost_in, lost, on_course}
+use Rattle.dali_port.specs.Ports.{read_at, has_no_power, is_broken_off, listened_by, since_edge, until_in, until, edge_in, edged, lost_in, lost}
 use Rattle.dali_port.specs.Calls.{drive_of, drive_in, is_backwards, may_begin, is_too_late, timed_in, timed, timer_after}
-use Rattle.dali_port.specs.Calls.{same_level, edge_after, lost_after, refused, is_gone, taken, send_after, send_after_by}
-use Rattle.dali_port.specs.Laws.{IsDrivenLow, is_sending, Begins, GoesOn}
+use Rattle.dali_port.specs.Calls.{same_level, edge_after, lost_after, refused, is_gone, send_after, send_after_by}
+use Rattle.dali_port.specs.Laws.{IsDrivenLow, is_sending, Begins}
 use Rattle.dali_port.proofs.Words.{read_keeps}
 
 -- WHAT IS DRIVEN LOW
@@ -60,7 +61,7 @@ until_still (Sending s) p now is quiet = absurd (cc)
 until_still (Breaking since) p now is quiet =
     either (is_broken_off since now) _ _ refl (quiet_as (Breaking since) (record p { called = now }) is refl)
 until_still (Listening l) p now is quiet =
-    after_hearing (told_after l.window (since_edge p now)) (record p { called = now }) l.asks (window_at l.window (since_edge p now))
+    after_hearing (told_after (window_of p l) (since_edge p now)) (record p { called = now }) l.asks (window_at (window_of p l) (since_edge p now))
 
 until_quiet : (p : Port) (now : ℕ) → is_sending p.phase ≡ false → is_sending (until p now).phase ≡ false
 until_quiet p now quiet = until_still p.phase p now refl quiet

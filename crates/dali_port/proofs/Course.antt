@@ -1,10 +1,10 @@
-use Rattle.std.proofs.Common.{◌≡◌, ℕ, ◌+◌, ◌-◌, ◌*◌, ◌≤◌, Bool, true, false, ◌⊎◌, inl, inr, refl, sym, ◌∙◌, ap, subst, arith, if◌then◌else◌, nat_lt, nat_le}
+use Rattle.std.proofs.Common.{◌≡◌, ℕ, ◌+◌, ◌-◌, ◌*◌, ◌≤◌, Bool, true, false, inl, inr, refl, sym, ◌∙◌, ap, subst, arith, if◌then◌else◌, nat_lt, nat_le}
 use Rattle.std.proofs.lemmas.Bool.Decides.{nat_tests}
-use Rattle.dali_port.specs.declared.frames.Course.{Course}
-use Rattle.dali_port.specs.declared.frames.Course.TheVariants as course
-use Rattle.dali_port.specs.declared.state.{Port.Port, Phase.Phase}
-use Rattle.dali_port.specs.declared.state.Phase.TheVariants.{Free, Waiting, Sending, Breaking, Listening}
-use Rattle.dali_port.specs.declared.state.Sending.{Sending as Sent}
+use Rattle.dali_port.specs.Courses.{Course}
+use Rattle.dali_port.specs.Courses as course
+use Rattle.dali_port.specs.State.{Port}
+use Rattle.dali_port.specs.State.{Sending, Breaking, Listening}
+use Rattle.dali_port.specs.State.{Sent}
 use Rattle.dali_port.specs.Times.{half_bit}
 use Rattle.dali_port.specs.Frames.{driven_in, same, agreed_by, compared_by, compared, turned, next_of, sent_beyond, sent_until}
 use Rattle.dali_port.specs.Ports.{broken_at, until_in, until, edged, lost_in, lost, on_course}
@@ -13,10 +13,10 @@ use Rattle.dali_port.specs.Laws.{GoesOn}
 
 -- A FRAME GOES ON half bit by half bit.
 
-sent_is : (s t : Sent) → Sending s ≡ Sending t → s ≡ t
+pub sent_is : (s t : Sent) → Sending s ≡ Sending t → s ≡ t
 sent_is s t e = cc
 
-goes_is : (b : Bool) (v u : Sent) → (if b then course.Destroyed else course.Goes v) ≡ course.Goes u → v ≡ u
+pub goes_is : (b : Bool) (v u : Sent) → (if b then course.Destroyed else course.Goes v) ≡ course.Goes u → v ≡ u
 goes_is true v u e = absurd (cc)
 goes_is false v u e = cc
 

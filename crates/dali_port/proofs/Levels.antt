@@ -1,11 +1,11 @@
 use Rattle.std.proofs.Common.{◌≡◌, ℕ, zero, suc, ◌+◌, ◌-◌, ◌*◌, ◌/◌, ◌%◌, ◌^◌, ◌<◌, ◌≤◌, Bool, true, false, not}
-use Rattle.std.proofs.Common.{List, [], ◌∷◌, ◌++◌, refl, sym, ap, ◌∙◌, subst, arith, nat_le, nat_lt, nat_eq, ◌==◌, pow-add, pow_pos, slice_index_or}
+use Rattle.std.proofs.Common.{List, ◌∷◌, ◌++◌, refl, sym, ap, ◌∙◌, subst, arith, nat_le, nat_eq, pow-add, pow_pos, slice_index_or}
 use Rattle.std.specs.Prelude.{if◌then◌else◌}
 use Rattle.std.proofs.lemmas.Bool.Decides.{nat_tests}
 use Rattle.std.proofs.lemmas.Nat.{div-mul-add}
 use Rattle.std.proofs.Math.Nat.{mul-add-div_right, pow-suc}
 use Rattle.dali_frame.specs.declared.frames.Forward.{Forward}
-use Rattle.dali_wire.specs.Levels.{bits_of, levels_of, highs, sent_levels, forward_bits}
+use Rattle.dali_wire.specs.Levels.{bits_of, levels_of, highs}
 use Rattle.dali_port.specs.Frames.{level_at}
 
 -- THE LEVEL OF A HALF BIT, by the bit of the number: its first half is low if it is 1, its second one if it is 0.

@@ -3,3 +3,6 @@ mod Words
 mod Begins
 mod Course
 mod Runs
+mod Ends
+mod Stretches
+mod Heard

@@ -6,22 +6,24 @@ use Rattle.dali_wire.specs.declared.receiver.Frame.TheVariants as read
 use Rattle.dali_wire.specs.declared.window.Window.{Window}
 use Rattle.dali_wire.specs.Reception.{told_of, receiver_at}
 use Rattle.dali_wire.specs.Windows.{told_after, window_at}
-use Rattle.dali_port.specs.declared.frames.Course.{Course}
-use Rattle.dali_port.specs.declared.frames.Course.TheVariants as course
+use Rattle.dali_port.specs.Courses.{Course}
+use Rattle.dali_port.specs.Courses as course
 use Rattle.std.specs.Prelude.{Ok, Err}
 use Rattle.dali_port.specs.declared.orders.{Order.Order, Refusal.Refusal, Word.Word}
-use Rattle.dali_port.specs.declared.state.{Port.Port, Phase.Phase, Event.Event}
-use Rattle.dali_port.specs.declared.state.Phase.TheVariants.{Free, Waiting, Sending, Breaking, Listening}
+use Rattle.dali_port.specs.State.{Port, Phase}
+use Rattle.dali_port.specs.declared.state.Event.{Event}
+use Rattle.dali_port.specs.State.{Free, Waiting, Sending, Breaking, Listening}
 use Rattle.dali_port.specs.declared.state.Read.TheVariants.{Frame, NoPower}
-use Rattle.dali_port.specs.declared.state.Sending.{Sending as Sent}
+use Rattle.dali_port.specs.State.{Sent}
+use Rattle.dali_port.specs.State.{window_of}
 use Rattle.dali_port.specs.Orders.{is_randomise}
 use Rattle.dali_port.specs.Frames.{driven_in, same, sent_until}
-use Rattle.dali_port.specs.Ports.{follows, noted, noted_frame, noted_told, read_at, has_no_power, is_broken_off, broken_at, on_course, listened_by, since_edge}
-use Rattle.dali_port.specs.Ports.{rest_event, until_in, event_in, until, event_until, edge_in, edged, lost_in, lost, lapsed_in}
-use Rattle.dali_port.specs.Calls.{is_backwards, may_begin, is_too_late, is_drawn, timed_in, timed, timer_after, same_level, edge_after, lost_after}
-use Rattle.dali_port.specs.Calls.{refused, is_gone, taken, taken_word, send_after, send_after_by, send_told_by, also}
+use Rattle.dali_port.specs.Ports.{follows, noted, noted_frame, noted_told, has_no_power, is_broken_off, broken_at, on_course, listened_by, since_edge}
+use Rattle.dali_port.specs.Ports.{until_in, event_in, until, event_until, edge_in, edged, lost_in, lost}
+use Rattle.dali_port.specs.Calls.{is_backwards, may_begin, is_too_late, is_drawn, timed_in, timed, timer_after, same_level}
+use Rattle.dali_port.specs.Calls.{refused, is_gone, taken, taken_word, send_after_by, send_told_by, also}
 use Rattle.dali_port.specs.Laws.{is_sending}
-use Rattle.dali_port.specs.Runs.{Call, Sends, Times, Turns, Loses, after, after_all, told_by, read_in, frame_in, forward_in, sent_in}
+use Rattle.dali_port.specs.Runs.{Call, Sends, Times, Turns, Loses, after, after_all, read_in, frame_in, forward_in, sent_in}
 use Rattle.dali_port.specs.Runs.{Marks, marked, marks_after, marks_after_all, marks_of}
 use Rattle.dali_port.proofs.Words.{was_free}
 use Rattle.dali_port.proofs.Begins.{until_still, timer_begins}
@@ -29,14 +31,13 @@ use Rattle.dali_port.proofs.Course.{course_goes}
 
 -- WHAT A PORT KNOWS OF RANDOMISE is what it sent and read.
 
-noted_by : (b : Bool) (p : Port) (at : ℕ)
-    → marks_of (if b then record p { randomise = Some at; draws = if follows p.randomise at then Some at else p.draws } else p)
-    ≡ (if b then (Some at, if follows p.randomise at then Some at else p.draws) else marks_of p)
-noted_by true p at = refl
-noted_by false p at = refl
+noted_by : (b follow : Bool) (at : ℕ) (m : Marks)
+    → (if b then Some at else m.0, if b && follow then Some at else m.1) ≡ (if b then (Some at, if follow then Some at else m.1) else m)
+noted_by true follow at m = refl
+noted_by false follow at m = refl
 
 noted_marks : (p : Port) (f : Forward) (at : ℕ) → marks_of (noted p f at) ≡ marked (marks_of p) (Some f) at
-noted_marks p f at = noted_by (is_randomise f) p at
+noted_marks p f at = noted_by (is_randomise f) (follows p.randomise at) at (marks_of p)
 
 frame_marks : (p : Port) (frame : Told-frame) → marks_of (noted_frame p frame) ≡ marked (marks_of p) (forward_in frame) p.edge
 frame_marks p (read.Forward f) = noted_marks p f p.edge
@@ -89,7 +90,7 @@ until_marks (Waiting order) p now =
 until_marks (Sending s) p now = course_marks (sent_until s p.is_low now) (record p { called = now }) s now
 until_marks (Breaking since) p now = keep_if (is_broken_off since now) _ _ (marks_of p) refl refl
 until_marks (Listening l) p now =
-    hears_marks (told_after l.window (since_edge p now)) (record p { called = now }) l.asks (window_at l.window (since_edge p now))
+    hears_marks (told_after (window_of p l) (since_edge p now)) (record p { called = now }) l.asks (window_at (window_of p l) (since_edge p now))
 
 -- the timer begins a frame, or none
 timed_marks : (ph : Phase) (q : Port) (now : ℕ) → marks_of (timed_in ph q now) ≡ marks_of q

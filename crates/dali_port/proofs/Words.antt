@@ -1,25 +1,27 @@
-use Rattle.std.proofs.Common.{◌≡◌, ℕ, Bool, true, false, ◌&&◌, not, Option, Some, None, refl, sym, ◌∙◌, ap, subst, if◌then◌else◌, is_some}
-use Rattle.std.specs.Prelude.{Result, Ok, Err}
+use Rattle.std.proofs.Common.{◌≡◌, ℕ, Bool, true, false, ◌&&◌, not, Option, Some, None, refl, sym, ◌∙◌, subst, if◌then◌else◌, is_some}
+use Rattle.std.specs.Prelude.{Ok, Err}
 use Rattle.dali_frame.specs.declared.frames.{Forward.Forward, Answer.Answer}
 use Rattle.dali_wire.specs.declared.receiver.{Told.Told, Frame.Frame}
 use Rattle.dali_wire.specs.declared.receiver.Frame.TheVariants as read
 use Rattle.dali_wire.specs.declared.window.Window.{Window}
 use Rattle.dali_wire.specs.Reception.{receiver_at, told_of}
 use Rattle.dali_wire.specs.Windows.{told_after, window_at}
-use Rattle.dali_port.specs.declared.frames.Course.{Course}
-use Rattle.dali_port.specs.declared.frames.Course.TheVariants as course
+use Rattle.dali_port.specs.Courses.{Course}
+use Rattle.dali_port.specs.Courses as course
 use Rattle.dali_port.specs.declared.orders.{Order.Order, Word.Word, Refusal.Refusal}
 use Rattle.dali_port.specs.declared.orders.Refusal.TheVariants.{Backwards, Busy}
 use Rattle.dali_port.specs.declared.orders.Word.TheVariants.{Lapsed, Destroyed}
-use Rattle.dali_port.specs.declared.state.{Port.Port, Phase.Phase, Event.Event}
-use Rattle.dali_port.specs.declared.state.Phase.TheVariants.{Free, Waiting, Sending, Breaking, Listening}
-use Rattle.dali_port.specs.declared.state.Sending.{Sending as Sent}
-use Rattle.dali_port.specs.declared.state.Listening.{Listening as After}
+use Rattle.dali_port.specs.State.{Port, Phase}
+use Rattle.dali_port.specs.declared.state.Event.{Event}
+use Rattle.dali_port.specs.State.{Free, Waiting, Sending, Breaking, Listening}
+use Rattle.dali_port.specs.State.{Sent}
+use Rattle.dali_port.specs.State.{After}
 use Rattle.dali_port.specs.Frames.{driven_in, same, sent_until}
-use Rattle.dali_port.specs.Orders.{is_later, heard_word, is_randomise, refusal_of}
+use Rattle.dali_port.specs.State.{window_of}
+use Rattle.dali_port.specs.Orders.{is_later, heard_word, refusal_of}
 use Rattle.dali_port.specs.Ports.{noted, noted_frame, noted_told, read_at, has_no_power, lapsed_in, is_broken_off, on_course, listened_by, since_edge}
-use Rattle.dali_port.specs.Ports.{broken_at, until_in, event_in, until, event_until, lapsed_word, lapses, edge_in, edged, lost_in, lost, only}
-use Rattle.dali_port.specs.Calls.{Answered, is_backwards, also, may_begin, is_too_late, timed_in, timed_word, timed, timer_after, timer_told, is_free}
+use Rattle.dali_port.specs.Ports.{broken_at, until_in, event_in, until, event_until, lapsed_word, edge_in, edged, lost_in, lost, only}
+use Rattle.dali_port.specs.Calls.{is_backwards, also, may_begin, is_too_late, timed_in, timed_word, timer_after, timer_told, is_free}
 use Rattle.dali_port.specs.Calls.{same_level, edge_after, edge_told, lost_after, lost_told, refused, is_gone}
 use Rattle.dali_port.specs.Calls.{send_after, send_told, send_after_by, send_told_by}
 use Rattle.dali_port.specs.Laws.{is_busy, IsOneWord, TellsOne, HandsIn}
@@ -32,7 +34,7 @@ phase_of_both true q r ph one other = one
 phase_of_both false q r ph one other = other
 
 noted_keeps : (p : Port) (frame : Forward) (at : ℕ) → (noted p frame at).phase ≡ p.phase
-noted_keeps p frame at = phase_of_both (is_randomise frame) _ p p.phase refl refl
+noted_keeps p frame at = refl
 
 frame_keeps : (p : Port) (frame : Frame) → (noted_frame p frame).phase ≡ p.phase
 frame_keeps p (read.Forward frame) = noted_keeps p frame p.edge
@@ -98,7 +100,8 @@ until_one_in (Waiting order) p now is =
 until_one_in (Sending s) p now is = goes (sent_until s p.is_low now) (record p { called = now }) s now
 until_one_in (Breaking since) p now is =
     one_of (is_broken_off since now) (Breaking since) _ _ (Some Destroyed) None (refl, refl) (stays_as (Breaking since) (record p { called = now }) is)
-until_one_in (Listening l) p now is = hears (told_after l.window (since_edge p now)) (record p { called = now }) l (window_at l.window (since_edge p now))
+until_one_in (Listening l) p now is =
+    hears (told_after (window_of p l) (since_edge p now)) (record p { called = now }) l (window_at (window_of p l) (since_edge p now))
 
 pub until_one : (p : Port) (now : ℕ) → IsOneWord p.phase (until p now).phase (event_until p now).word
 until_one p now = until_one_in p.phase p now refl

@@ -1,4 +1,4 @@
-use Rattle.std.specs.Prelude.{ℕ, ◌-◌, ◌+◌, ◌^◌, min, max, Bool, true, false, ◌&&◌, ◌||◌, not, ◌==◌}
+use Rattle.std.specs.Prelude.{ℕ, ◌-◌, ◌+◌, ◌^◌, min, max, Bool, true, false, ◌&&◌, ◌||◌, not}
 use Rattle.std.specs.Prelude.{nat_lt, nat_le, Option, Some, None, is_none, Result, Ok, Err}
 use Rattle.std.specs.Prelude.{if◌then◌else◌}
 use Rattle.dali_wire.specs.declared.window.Window.{Window}
@@ -7,18 +7,19 @@ use Rattle.dali_port.specs.declared.orders.Order.{Order}
 use Rattle.dali_port.specs.declared.orders.Refusal.{Refusal}
 use Rattle.dali_port.specs.declared.orders.Refusal.TheVariants.{Backwards, Busy}
 use Rattle.dali_port.specs.declared.orders.Word.{Word}
-use Rattle.dali_port.specs.declared.orders.Word.TheVariants.{Heard, Destroyed, Lapsed}
-use Rattle.dali_port.specs.declared.state.Phase.{Phase}
-use Rattle.dali_port.specs.declared.state.Phase.TheVariants.{Free, Waiting, Sending, Breaking}
-use Rattle.dali_port.specs.declared.state.Phase.TheVariants.{Listening}
-use Rattle.dali_port.specs.declared.state.Port.{Port}
+use Rattle.dali_port.specs.declared.orders.Word.TheVariants.{Lapsed}
+use Rattle.dali_port.specs.State.{Phase}
+use Rattle.dali_port.specs.State.{Free, Waiting, Sending, Breaking}
+use Rattle.dali_port.specs.State.{Listening}
+use Rattle.dali_port.specs.State.{Port}
 use Rattle.dali_port.specs.declared.state.Event.{Event}
 use Rattle.dali_port.specs.declared.state.Drive.{Drive}
+use Rattle.dali_port.specs.State.{window_of}
 use Rattle.dali_port.specs.Times.{half_bit, frame_time, settling_of, break_time, pair_time}
 use Rattle.dali_port.specs.Times.{draw_time, power_time}
 use Rattle.dali_port.specs.Orders.{is_later, is_first, is_second, refusal_of}
 use Rattle.dali_port.specs.Frames.{begun_at, driven_in, next_in}
-use Rattle.dali_port.specs.Ports.{rested, rest_event, until, event_until, edged, lost, lapsed_word}
+use Rattle.dali_port.specs.Ports.{until, event_until, edged, lost, lapsed_word}
 use Rattle.dali_port.specs.Ports.{only}
 
 -- EACH CALL of a port: what it tells, and the port after it. A call that does not fit is refused,
@@ -26,6 +27,10 @@ use Rattle.dali_port.specs.Ports.{only}
 
 abbrev pub Answered : Type 0
 Answered = Result Event Refusal
+
+abbrev pub answered : Result Unit Refusal → Event → Answered
+answered (Ok done) event = Ok event
+answered (Err refusal) event = Err refusal
 
 -- a time that runs backwards
 abbrev pub is_backwards : Port → ℕ → Bool
@@ -194,7 +199,7 @@ drive_in (Sending s) p = record {
 drive_in (Breaking since) p =
     record { is_low = true; at = Some (at_most (since + break_time)); next = false }
 drive_in (Listening l) p =
-    record { is_low = false; at = Some (window_due p l.window); next = false }
+    record { is_low = false; at = Some (window_due p (window_of p l)); next = false }
 
 abbrev pub drive_of : Port → Drive
 drive_of p = drive_in p.phase p

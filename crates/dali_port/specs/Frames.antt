@@ -1,11 +1,11 @@
-use Rattle.std.specs.Prelude.{ℕ, suc, ◌+◌, ◌-◌, ◌*◌, min, Bool, true, false, nat_lt, nat_le, ◌==◌}
+use Rattle.std.specs.Prelude.{ℕ, ◌+◌, ◌-◌, ◌*◌, min, Bool, true, false, nat_lt, nat_le}
 use Rattle.std.specs.Prelude.{slice_index_or, if◌then◌else◌}
 use Rattle.dali_frame.specs.declared.frames.Forward.{Forward}
 use Rattle.dali_wire.specs.Levels.{sent_levels, forward_bits}
 use Rattle.dali_port.specs.declared.orders.Order.{Order}
-use Rattle.dali_port.specs.declared.state.Sending.{Sending}
-use Rattle.dali_port.specs.declared.frames.Course.{Course}
-use Rattle.dali_port.specs.declared.frames.Course.TheVariants.{Goes, Destroyed, Whole}
+use Rattle.dali_port.specs.State.{Sent}
+use Rattle.dali_port.specs.Courses.{Course}
+use Rattle.dali_port.specs.Courses.{Goes, Destroyed, Whole}
 use Rattle.dali_port.specs.Times.{half_bit, apart}
 
 -- THE LEVELS OF A FRAME, those of `Sender`, each for a half bit; once the stop condition is over,
@@ -14,7 +14,7 @@ abbrev pub level_at : Forward → ℕ → Bool
 level_at frame half = slice_index_or (sent_levels (forward_bits frame)) half false
 
 -- A FRAME THAT IS BEING SENT. Its first level is low.
-abbrev pub begun_at : Order → ℕ → Sending
+abbrev pub begun_at : Order → ℕ → Sent
 begun_at order now = record {
   order = order;
   half = 0;
@@ -27,10 +27,10 @@ begun_at order now = record {
 abbrev pub next_of : ℕ → ℕ
 next_of half = min (half + 1) 255
 
-abbrev pub driven_in : Sending → Bool
+abbrev pub driven_in : Sent → Bool
 driven_in s = level_at s.order.frame s.half
 
-abbrev pub next_in : Sending → Bool
+abbrev pub next_in : Sent → Bool
 next_in s = level_at s.order.frame (next_of s.half)
 
 abbrev pub same : Bool → Bool → Bool
@@ -44,15 +44,15 @@ same false true = false
 abbrev pub agreed_by : Bool → Bool → ℕ → ℕ → ℕ
 agreed_by driven low agreed now = if same driven low then now else agreed
 
-abbrev pub compared_by : Sending → ℕ → ℕ → Course
+abbrev pub compared_by : Sent → ℕ → ℕ → Course
 compared_by s agreed now =
     if nat_lt apart (now - agreed) then Destroyed else Goes (record s { agreed = agreed })
 
-abbrev pub compared : Sending → Bool → ℕ → Course
+abbrev pub compared : Sent → Bool → ℕ → Course
 compared s low now = compared_by s (agreed_by (driven_in s) low s.agreed now) now
 
 -- THE NEXT HALF BIT; if it has another level, this is an edge
-abbrev pub turned : Sending → ℕ → Sending
+abbrev pub turned : Sent → ℕ → Sent
 turned s now = record s {
   half = next_of s.half;
   since = now;
@@ -69,7 +69,7 @@ sent_beyond (Goes s) turn lasted low now =
 sent_beyond Destroyed turn lasted low now = Destroyed
 sent_beyond Whole turn lasted low now = Destroyed
 
-abbrev pub sent_until : Sending → Bool → ℕ → Course
+abbrev pub sent_until : Sent → Bool → ℕ → Course
 sent_until s low now =
     if nat_lt (now - s.since) half_bit then compared s low now
     else sent_beyond

@@ -1,11 +1,11 @@
 use Rattle.std.specs.Prelude.{◌≡◌, ℕ, ◌+◌, ◌≤◌, ◌⊎◌, Bool, true, false, ◌&&◌, not, is_some, Option}
-use Rattle.std.specs.Prelude.{Result, Ok, Err}
+use Rattle.std.specs.Prelude.{Ok, Err}
 use Rattle.dali_port.specs.declared.orders.Word.{Word}
-use Rattle.dali_port.specs.declared.state.Sending.{Sending as Sent}
-use Rattle.dali_port.specs.declared.state.Phase.{Phase}
-use Rattle.dali_port.specs.declared.state.Phase.TheVariants.{Free, Waiting, Sending, Breaking}
-use Rattle.dali_port.specs.declared.state.Phase.TheVariants.{Listening}
-use Rattle.dali_port.specs.declared.state.Port.{Port}
+use Rattle.dali_port.specs.State.{Sent}
+use Rattle.dali_port.specs.State.{Phase}
+use Rattle.dali_port.specs.State.{Free, Waiting, Sending, Breaking}
+use Rattle.dali_port.specs.State.{Listening}
+use Rattle.dali_port.specs.State.{Port}
 use Rattle.dali_port.specs.Times.{half_bit}
 use Rattle.dali_port.specs.Frames.{driven_in, begun_at, next_of}
 use Rattle.dali_port.specs.Ports.{until}
@@ -63,3 +63,15 @@ GoesOn s t now =
     (t.order ≡ s.order)
     × (((t.half ≡ s.half) × (t.since ≡ s.since))
     ⊎ ((t.half ≡ next_of s.half) × (t.since ≡ s.since + half_bit) × (t.since ≤ now)))
+
+-- A CALL TELLS A WORD
+abbrev pub TellsWord : Answered → Type 0
+TellsWord (Ok event) = is_some event.word ≡ true
+TellsWord (Err refusal) = ⊥
+
+abbrev pub is_waiting : Phase → Bool
+is_waiting Free = false
+is_waiting (Waiting order) = true
+is_waiting (Sending s) = false
+is_waiting (Breaking since) = false
+is_waiting (Listening l) = false

@@ -1,7 +1,10 @@
 pub mod Times
 pub mod Orders
+pub mod State
+pub mod Courses
 pub mod Frames
 pub mod Ports
 pub mod Calls
 pub mod Laws
 pub mod Runs
+pub mod Stretches

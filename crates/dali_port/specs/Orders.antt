@@ -1,4 +1,4 @@
-use Rattle.std.specs.Prelude.{ℕ, Bool, true, false, ◌&&◌, not, ◌==◌, nat_lt}
+use Rattle.std.specs.Prelude.{Bool, true, false, ◌&&◌, not, ◌==◌, nat_lt}
 use Rattle.std.specs.Prelude.{Option, Some, None, if◌then◌else◌}
 use Rattle.dali_frame.specs.declared.frames.Forward.{Forward}
 use Rattle.dali_frame.specs.declared.frames.Answer.{Answer}
@@ -7,7 +7,7 @@ use Rattle.dali_port.specs.declared.orders.Half.{Half}
 use Rattle.dali_port.specs.declared.orders.Half.TheVariants.{Whole, First, Second}
 use Rattle.dali_port.specs.declared.orders.Order.{Order}
 use Rattle.dali_port.specs.declared.orders.Word.{Word}
-use Rattle.dali_port.specs.declared.orders.Word.TheVariants.{Heard, Destroyed, Lapsed}
+use Rattle.dali_port.specs.declared.orders.Word.TheVariants.{Heard, Destroyed}
 use Rattle.dali_port.specs.declared.orders.Refusal.{Refusal}
 use Rattle.dali_port.specs.declared.orders.Refusal.TheVariants.{NotLater, BeyondSpan}
 use Rattle.dali_port.specs.Times.{span_of}

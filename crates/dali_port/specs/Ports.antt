@@ -1,5 +1,5 @@
-use Rattle.std.specs.Prelude.{ℕ, ◌-◌, ◌+◌, ◌^◌, min, Bool, true, false, ◌&&◌, ◌||◌, not}
-use Rattle.std.specs.Prelude.{nat_lt, nat_le, Option, Some, None, if◌then◌else◌}
+use Rattle.std.specs.Prelude.{ℕ, ◌-◌, ◌^◌, min, Bool, true, false, ◌&&◌, ◌||◌}
+use Rattle.std.specs.Prelude.{nat_le, Option, Some, None, if◌then◌else◌}
 use Rattle.std.specs.Option.{option_map}
 use Rattle.dali_frame.specs.declared.frames.Forward.{Forward}
 use Rattle.dali_frame.specs.declared.frames.Answer.{Answer}
@@ -15,18 +15,18 @@ use Rattle.dali_wire.specs.Windows.{passed, window_after, window_at, told_after}
 use Rattle.dali_port.specs.declared.orders.Order.{Order}
 use Rattle.dali_port.specs.declared.orders.Word.{Word}
 use Rattle.dali_port.specs.declared.orders.Word.TheVariants.{Heard, Destroyed, Lapsed}
-use Rattle.dali_port.specs.declared.frames.Course.{Course}
-use Rattle.dali_port.specs.declared.frames.Course.TheVariants as course
-use Rattle.dali_port.specs.declared.state.Sending.{Sending as Sent}
-use Rattle.dali_port.specs.declared.state.Listening.{Listening as Heard-after}
-use Rattle.dali_port.specs.declared.state.Phase.{Phase}
-use Rattle.dali_port.specs.declared.state.Phase.TheVariants.{Free, Waiting, Sending, Breaking}
-use Rattle.dali_port.specs.declared.state.Phase.TheVariants.{Listening}
-use Rattle.dali_port.specs.declared.state.Port.{Port}
-use Rattle.dali_port.specs.declared.state.Read.{Read}
+use Rattle.dali_port.specs.Courses.{Course}
+use Rattle.dali_port.specs.Courses as course
+use Rattle.dali_port.specs.State.{Sent}
+use Rattle.dali_port.specs.State.{After}
+use Rattle.dali_port.specs.State.{Phase}
+use Rattle.dali_port.specs.State.{Free, Waiting, Sending, Breaking}
+use Rattle.dali_port.specs.State.{Listening}
+use Rattle.dali_port.specs.State.{Port}
 use Rattle.dali_port.specs.declared.state.Read.TheVariants.{Frame, NoPower}
 use Rattle.dali_port.specs.declared.state.Event.{Event}
 use Rattle.dali_port.specs.Times.{break_time, pair_time, power_time}
+use Rattle.dali_port.specs.State.{window_of, after_window}
 use Rattle.dali_port.specs.Orders.{is_later, is_randomise, heard_word}
 use Rattle.dali_port.specs.Frames.{driven_in, same, sent_until}
 
@@ -63,11 +63,10 @@ follows None at = false
 follows (Some last) at = nat_le (at - last) pair_time
 
 abbrev pub noted : Port → Forward → ℕ → Port
-noted p frame at =
-    if is_randomise frame then record p {
-      randomise = Some at;
-      draws = if follows p.randomise at then Some at else p.draws;
-    } else p
+noted p frame at = record p {
+  randomise = if is_randomise frame then Some at else p.randomise;
+  draws = if is_randomise frame && follows p.randomise at then Some at else p.draws;
+}
 
 abbrev pub noted_frame : Port → Told-frame → Port
 noted_frame p (read.Forward frame) = noted p frame p.edge
@@ -115,21 +114,22 @@ rest_event p now =
 -- A FRAME IS DESTROYED: from now on the bus is driven low for the time of a break. Gear may have
 -- taken the frame.
 abbrev pub broken_at : Port → Forward → ℕ → Port
-broken_at p frame now = record (noted p frame now) { is_over = true; phase = Breaking now }
+broken_at p frame now = noted (record p { is_over = true; phase = Breaking now }) frame now
 
 -- IT WAS SENT WHOLE: what is heard from its last edge on
-abbrev pub window_from : Port → Sent → Window
-window_from p s = record {
-  receiver = receiver_at_first;
+abbrev pub after_at_first : Port → Sent → After
+after_at_first p s = record {
+  asks = s.order.asks;
   elapsed = min (p.edge - s.driven) (2 ^ 32 - 1);
   heard = answer.Silence;
   has_pulse = false;
 }
 
 abbrev pub whole_at : Port → Sent → ℕ → Port
-whole_at p s now = record (noted p s.order.frame now) {
-  phase = Listening (record { asks = s.order.asks; window = window_from p s });
-}
+whole_at p s now =
+    noted
+    (record p { receiver = receiver_at_first; phase = Listening (after_at_first p s) })
+    s.order.frame now
 
 abbrev pub on_course : Port → Sent → ℕ → Course → Port
 on_course p s now (course.Goes t) = record p { phase = Sending t }
@@ -155,22 +155,22 @@ is_destroyed Lapsed = false
 
 abbrev pub listened_by : Port → Bool → Window → Option Answer → Port
 listened_by p asks w None =
-    record p { phase = Listening (record { asks = asks; window = w }) }
+    record p { receiver = w.receiver; phase = Listening (after_window asks w) }
 listened_by p asks w (Some heard) = record p {
   receiver = w.receiver;
   is_over = p.is_over || is_destroyed (heard_word asks heard);
   phase = Free;
 }
 
-abbrev pub listened : Port → Heard-after → ℕ → Port
+abbrev pub listened : Port → After → ℕ → Port
 listened p l now =
     listened_by p l.asks
-    (window_at l.window (since_edge p now))
-    (told_after l.window (since_edge p now))
+    (window_at (window_of p l) (since_edge p now))
+    (told_after (window_of p l) (since_edge p now))
 
-abbrev pub listened_word : Port → Heard-after → ℕ → Option Word
+abbrev pub listened_word : Port → After → ℕ → Option Word
 listened_word p l now =
-    option_map (λ heard. heard_word l.asks heard) (told_after l.window (since_edge p now))
+    option_map (λ heard. heard_word l.asks heard) (told_after (window_of p l) (since_edge p now))
 
 -- TIME PASSES, and the bus keeps its level until now.
 abbrev pub until_in : Phase → Port → ℕ → Port
@@ -221,7 +221,9 @@ edge_in (Sending s) p low now =
     if same (driven_in s) low then p else broken_at p s.order.frame now
 edge_in (Breaking since) p low now = p
 edge_in (Listening l) p low now = record p {
-  phase = Listening (record l { window = window_after l.window low (since_edge p now) });
+  receiver = (window_after (window_of p l) low (since_edge p now)).receiver;
+  phase =
+      Listening (after_window l.asks (window_after (window_of p l) low (since_edge p now)));
 }
 
 abbrev pub with_level : Port → Bool → ℕ → Port
@@ -251,7 +253,8 @@ lost_in (Waiting order) p low now = record p { receiver = spoilt low; phase = la
 lost_in (Sending s) p low now = broken_at p s.order.frame now
 lost_in (Breaking since) p low now = p
 lost_in (Listening l) p low now = record p {
-  phase = Listening (record l { window = lost_window l.window low (since_edge p now) });
+  receiver = spoilt low;
+  phase = Listening (after_window l.asks (lost_window (window_of p l) low (since_edge p now)));
 }
 
 abbrev pub lost : Port → Bool → ℕ → Port

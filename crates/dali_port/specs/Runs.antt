@@ -1,21 +1,21 @@
-use Rattle.std.specs.Prelude.{ℕ, Bool, true, false, List, [], ◌∷◌, Option, Some, None, Ok, Err}
+use Rattle.std.specs.Prelude.{ℕ, ◌+◌, is_some, Bool, true, false, List, [], ◌∷◌}
+use Rattle.std.specs.Prelude.{Option, Some, None, Ok, Err}
 use Rattle.std.specs.Prelude.{if◌then◌else◌}
 use Rattle.dali_frame.specs.declared.frames.Forward.{Forward}
 use Rattle.dali_wire.specs.declared.receiver.Frame.{Frame as Told-frame}
 use Rattle.dali_wire.specs.declared.receiver.Frame.TheVariants as read
 use Rattle.dali_port.specs.declared.orders.Order.{Order}
-use Rattle.dali_port.specs.declared.state.Phase.{Phase}
-use Rattle.dali_port.specs.declared.state.Phase.TheVariants.{Free, Waiting, Sending, Breaking}
-use Rattle.dali_port.specs.declared.state.Phase.TheVariants.{Listening}
-use Rattle.dali_port.specs.declared.state.Port.{Port}
+use Rattle.dali_port.specs.State.{Phase}
+use Rattle.dali_port.specs.State.{Free, Waiting, Sending, Breaking}
+use Rattle.dali_port.specs.State.{Listening}
+use Rattle.dali_port.specs.State.{Port}
 use Rattle.dali_port.specs.declared.state.Read.{Read}
 use Rattle.dali_port.specs.declared.state.Read.TheVariants.{Frame, NoPower}
-use Rattle.dali_port.specs.declared.state.Event.{Event}
 use Rattle.dali_port.specs.Orders.{is_randomise}
 use Rattle.dali_port.specs.Ports.{follows}
 use Rattle.dali_port.specs.Calls.{Answered, send_after, send_told, timer_after, timer_told}
 use Rattle.dali_port.specs.Calls.{edge_after, edge_told, lost_after, lost_told}
-use Rattle.dali_port.specs.Laws.{is_sending}
+use Rattle.dali_port.specs.Laws.{is_sending, is_busy}
 
 -- A RUN: calls of a port, one after the other, each with its time
 pub data Call : Type 0 where
@@ -93,3 +93,34 @@ marks_after_all p m (c ∷ calls) = marks_after_all (after p c) (marks_after p m
 -- those that a port knows of
 abbrev pub marks_of : Port → Marks
 marks_of p = (p.randomise, p.draws)
+
+-- HOW MANY WORDS A RUN TOLD, and how many frames it took
+abbrev pub one_if : Bool → ℕ
+one_if true = 1
+one_if false = 0
+
+abbrev pub word_in : Answered → ℕ
+word_in (Ok event) = one_if (is_some event.word)
+word_in (Err refusal) = 0
+
+abbrev pub words : Port → List Call → ℕ
+words p [] = 0
+words p (c ∷ calls) = word_in (told_by p c) + words (after p c) calls
+
+abbrev pub done_in : Answered → ℕ
+done_in (Ok event) = 1
+done_in (Err refusal) = 0
+
+abbrev pub taken_by : Port → Call → ℕ
+taken_by p (Sends order now) = done_in (send_told p order now)
+taken_by p (Times now) = 0
+taken_by p (Turns low now) = 0
+taken_by p (Loses low now) = 0
+
+abbrev pub frames : Port → List Call → ℕ
+frames p [] = 0
+frames p (c ∷ calls) = taken_by p c + frames (after p c) calls
+
+-- whether one is under way
+abbrev pub under_way : Port → ℕ
+under_way p = one_if (is_busy p.phase)

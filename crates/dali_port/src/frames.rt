@@ -1,10 +1,12 @@
 //! A frame on the bus, half bit by half bit, and compared with it.
 
-ghost use Rattle.std.specs.Prelude.{◌≡◌, ◌<◌, ◌+◌, ◌*◌, ◌^◌};
-ghost use Rattle.dali_port.specs.Frames.{level_at, begun_at, next_of, agreed_by, compared, turned, sent_until};
+ghost use Rattle.std.specs.Prelude.{◌≡◌, ◌<◌, ◌+◌, ◌-◌, ◌*◌, ◌^◌, if◌then◌else◌};
+ghost use Rattle.dali_port.specs.State.{is_so, seen, sent_of};
+ghost use Rattle.dali_port.specs.Frames.{level_at, driven_in, next_in, next_of, same};
+ghost use Rattle.dali_port.specs.Frames.{agreed_by, compared, turned, sent_until};
+ghost use Rattle.dali_port.specs.Ports.{on_course};
 
-use crate::orders::Order;
-use crate::state::Sending;
+use crate::state::{Port, SENDING};
 use dali_frame::Forward;
 
 /// A half bit of a sender, in µs (IEC 62386-101:2014, transmitter bit timing).
@@ -15,17 +17,6 @@ const HALVES: u8 = 40;
 
 /// How long the level of the bus may differ from the one that is driven, in µs.
 const APART: u64 = 40;
-
-/// What becomes of a frame that is being sent.
-#[derive(Clone, Copy)]
-pub enum Course {
-    /// It goes on.
-    Goes(Sending),
-    /// Its levels differed from those of the bus, or its next level was not driven in time.
-    Destroyed,
-    /// Its stop condition is over.
-    Whole,
-}
 
 /// The 17 bits of a frame, with its start bit.
 fn bits(address_byte: u8, opcode_byte: u8) -> u32
@@ -46,86 +37,108 @@ pub(crate) fn level(frame: Forward, half: u8) -> bool
     if half % 2 == 0 { is_one } else { !is_one }
 }
 
-/// When the bus last had the level that is driven.
-fn agreed_by(driven: bool, is_low: bool, agreed: u64, now: u64) -> u64
-    ensures { result ≡ agreed_by driven is_low agreed now }
-{
-    if driven == is_low { now } else { agreed }
-}
-
-impl Sending {
+impl Port {
     /// The first half bit of a frame begins.
-    pub(crate) fn begin(order: Order, now: u64) -> Sending
-        ensures { result ≡ begun_at order now }
+    pub(crate) fn begin_bits(&mut self, now: u64)
+        ensures { self.new ≡ record self.old { phase = 2; at_half = 0; since = now; agreed = now; driven = now } }
     {
-        Sending {
-            order,
-            half: 0,
-            since: now,
-            agreed: now,
-            driven: now,
-        }
+        self.phase = SENDING;
+        self.at_half = 0;
+        self.since = now;
+        self.agreed = now;
+        self.driven = now;
     }
 
     /// The level that is driven.
-    pub(crate) fn is_low(&self) -> bool
-        ensures { result ≡ level_at self.now.order.frame self.now.half }
+    pub(crate) fn drives_low(&self) -> bool
+        ensures { result ≡ driven_in (sent_of self.now) }
     {
-        level(self.order.frame, self.half)
+        level(self.frame(), self.at_half)
     }
 
     /// The level of the next half bit.
-    pub(crate) fn next(&self) -> bool
-        ensures { result ≡ level_at self.now.order.frame (next_of self.now.half) }
+    pub(crate) fn drives_low_next(&self) -> bool
+        ensures { result ≡ next_in (sent_of self.now) }
     {
-        level(self.order.frame, self.half.saturating_add(1))
+        level(self.frame(), self.at_half.saturating_add(1))
     }
 
-    /// The level of the bus stayed as it is until now, and so did the one that is driven.
-    fn compared(&self, is_low: bool, now: u64) -> Course
-        ensures { result ≡ compared self.now is_low now }
+    /// When the bus last had the level that is driven, if both stayed as they are until now.
+    fn agreed_by(&self, agreed: u64, now: u64) -> u64
+        ensures { result ≡ agreed_by (driven_in (sent_of self.now)) (is_so self.now.is_low) agreed now }
     {
-        let agreed = agreed_by(self.is_low(), is_low, self.agreed, now);
-        if now.saturating_sub(agreed) > APART {
-            Course::Destroyed
+        if self.drives_low() == (self.is_low != 0) {
+            now
         } else {
-            Course::Goes(Sending { agreed, ..*self })
+            agreed
         }
     }
 
     /// The next half bit begins at this time.
-    fn turned(&self, now: u64) -> Sending
-        ensures { result ≡ turned self.now now }
+    fn turn_half(&mut self, now: u64)
+        ensures { self.new ≡ record self.old {
+          at_half = next_of self.old.at_half;
+          since = now;
+          driven = if same (driven_in (sent_of self.old)) (next_in (sent_of self.old)) then self.old.driven else now;
+        } }
     {
-        let is_edge = self.is_low() != self.next();
-        Sending {
-            half: self.half.saturating_add(1),
-            since: now,
-            driven: if is_edge { now } else { self.driven },
-            ..*self
+        if self.drives_low() != self.drives_low_next() {
+            self.driven = now;
+        }
+        self.at_half = self.at_half.saturating_add(1);
+        self.since = now;
+    }
+
+    /// The bus kept its level until now. If it differed for too long, the frame is destroyed.
+    fn compare(&mut self, agreed: u64, now: u64)
+        requires { self.old.phase ≡ 2 }
+        ensures { seen self.new ≡ on_course (seen self.old) (sent_of self.old) now
+            (compared (record (sent_of self.old) { agreed = agreed }) (is_so self.old.is_low) now) }
+    {
+        let agreed = self.agreed_by(agreed, now);
+        if now.saturating_sub(agreed) > APART {
+            self.destroy(now);
+        } else {
+            self.agreed = agreed;
         }
     }
 
-    /// The level of the bus stayed as it is until now.
-    pub(crate) fn until(&self, is_low: bool, now: u64) -> Course
-        ensures { result ≡ sent_until self.now is_low now }
+    /// The next half bit begins at this time, and the bus kept its level until now.
+    fn turn_on(&mut self, agreed: u64, turn: u64, now: u64)
+        requires { self.old.phase ≡ 2 }
+        ensures { seen self.new ≡ on_course (seen self.old) (sent_of self.old) now
+            (compared (turned (record (sent_of self.old) { agreed = agreed }) turn) (is_so self.old.is_low) now) }
+    {
+        self.turn_half(turn);
+        let agreed = self.agreed_by(agreed, now);
+        if now.saturating_sub(agreed) > APART {
+            self.destroy(now);
+        } else {
+            self.agreed = agreed;
+        }
+    }
+
+    /// A frame that is being sent, if the bus kept its level until now.
+    pub(crate) fn send_on(&mut self, now: u64)
+        requires { self.old.phase ≡ 2 }
+        ensures { seen self.new ≡ on_course (seen self.old) (sent_of self.old) now
+            (sent_until (sent_of self.old) (is_so self.old.is_low) now) }
     {
         let lasted = now.saturating_sub(self.since);
         if lasted < HALF_BIT {
-            return self.compared(is_low, now);
+            self.compare(self.agreed, now);
+            return;
         }
         let turn = self.since + HALF_BIT;
-        match self.compared(is_low, turn) {
-            Course::Goes(sending) => {
-                if self.half >= HALVES - 1 {
-                    Course::Whole
-                } else if lasted > 2 * HALF_BIT {
-                    Course::Destroyed
-                } else {
-                    sending.turned(turn).compared(is_low, now)
-                }
-            }
-            Course::Destroyed | Course::Whole => Course::Destroyed,
+        let agreed = self.agreed_by(self.agreed, turn);
+        if turn.saturating_sub(agreed) > APART {
+            self.destroy(now);
+        } else if self.at_half >= HALVES - 1 {
+            self.hear(now);
+        } else if lasted > 2 * HALF_BIT {
+            self.destroy(now);
+        } else {
+            self.turn_on(agreed, turn, now);
         }
     }
 }

@@ -11,4 +11,4 @@ mod port;
 mod state;
 
 pub use orders::{Half, Order, Refusal, Word};
-pub use state::{Drive, Event, Listening, Phase, Port, Read, Sending};
+pub use state::{Drive, Event, Port, Read};

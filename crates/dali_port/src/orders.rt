@@ -61,28 +61,26 @@ pub enum Refusal {
 
 /// How long the bus is at rest before a frame, at least, in µs (IEC 62386-101:2014, multi-master transmitter frame
 /// sequence timing).
-pub(crate) fn settling(priority: Priority) -> u64
+pub(crate) fn settling(priority: u8) -> u64
     ensures { result ≡ settling_of priority }
 {
-    match priority.number() {
+    match priority {
         1 => 13_500,
         2 => 14_900,
         3 => 16_300,
         4 => 17_900,
-        5 => 19_500,
-        _ => unreachable!(),
+        _ => 19_500,
     }
 }
 
 /// How much longer it may be at rest.
-fn span(priority: Priority) -> u32
+fn span(priority: u8) -> u32
     ensures { result ≡ span_of priority }
 {
-    match priority.number() {
+    match priority {
         1 | 2 => 1_200,
         3 | 4 => 1_400,
-        5 => 1_600,
-        _ => unreachable!(),
+        _ => 1_600,
     }
 }
 
@@ -107,7 +105,7 @@ impl Order {
     {
         if matches!(self.half, Half::Second) && !self.is_later() {
             Some(Refusal::NotLater)
-        } else if self.drawn > span(self.priority) {
+        } else if self.drawn > span(self.priority.number()) {
             Some(Refusal::BeyondSpan)
         } else {
             None

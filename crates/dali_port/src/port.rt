@@ -1,20 +1,22 @@
 //! The calls of a port.
 
-ghost use Rattle.std.specs.Prelude.{◌≡◌, ◌^◌, ◌-◌, min, Some, None, if◌then◌else◌};
-ghost use Rattle.dali_port.specs.Ports.{since_edge, spoilt, port_at_first, noted, noted_told, has_no_power};
-ghost use Rattle.dali_port.specs.Ports.{rested, rest_event, broken_at, whole_at, on_course, broken_off};
-ghost use Rattle.dali_port.specs.Ports.{break_word, listened, listened_word, until, event_until, edged};
-ghost use Rattle.dali_port.specs.Ports.{lapses, lapsed_word, with_level, lost_window, lost, only, follows};
-ghost use Rattle.dali_port.specs.Calls.{is_drawn, may_begin, is_in_time, is_too_late, begun, timed, timed_word, also};
+ghost use Rattle.std.specs.Prelude.{◌≡◌, ◌^◌, ◌-◌, min, true, Some, None, IsErr, if◌then◌else◌};
+ghost use Rattle.dali_port.specs.State.{seen, receiver_of, order_of, sent_of, after_of, window_of};
+ghost use Rattle.dali_port.specs.Ports.{since_edge, spoilt, noted, noted_told, has_no_power, rested, rest_event, only};
+ghost use Rattle.dali_port.specs.Ports.{broken_at, whole_at, broken_off, break_word, listened, listened_word};
+ghost use Rattle.dali_port.specs.Ports.{until, event_until, edge_in, edged, lapsed_word, with_level, lost_window};
+ghost use Rattle.dali_port.specs.Ports.{lost_in, lost};
+ghost use Rattle.dali_wire.specs.Reception.{receiver_after, receiver_at, told_of};
+ghost use Rattle.dali_wire.specs.Windows.{window_at, told_after};
+ghost use Rattle.dali_port.specs.Calls.{may_begin, is_too_late, begun, timed, timed_word, also, answered};
 ghost use Rattle.dali_port.specs.Calls.{timer_after, timer_told, edge_after, edge_told, lost_after, lost_told};
 ghost use Rattle.dali_port.specs.Calls.{refused, is_gone, send_after, send_told, drive_of};
 ghost use Rattle.dali_port.specs.Calls.{window_due, begins_at, rest_due, taken, taken_word};
-ghost use Rattle.dali_port.specs.Frames.{sent_until};
 ghost use Rattle.dali_port.specs.declared.orders.Word.TheVariants.{Lapsed};
 
-use crate::frames::{Course, HALF_BIT};
+use crate::frames::HALF_BIT;
 use crate::orders::{Half, Order, Refusal, Word, heard_word, is_randomise, settling};
-use crate::state::{Drive, Event, Listening, Phase, Port, Read, Sending};
+use crate::state::{BREAKING, Drive, Event, FREE, LISTENING, Port, Read, SENDING, WAITING};
 use dali_frame::{Answer, Forward};
 use dali_wire::{Frame, Reading, Receiver, Told, Window};
 
@@ -59,72 +61,17 @@ fn spoilt(is_low: bool) -> Receiver
     }
 }
 
-fn only(word: Option<Word>) -> Event
-    ensures { result ≡ only word }
-{
-    Event { word, read: None }
-}
+const NOTHING: Event = Event {
+    word: None,
+    read: None,
+};
 
-fn also(event: Event, word: Option<Word>) -> Event
-    ensures { result ≡ also event word }
+/// A word is told too, if there is one.
+fn tell(event: &mut Event, word: Option<Word>)
+    ensures { event.new ≡ also event.old word }
 {
-    match word {
-        None => event,
-        Some(_) => Event { word, ..event },
-    }
-}
-
-/// Where an order is once others sent: a later frame lapses.
-fn lapses(order: Order) -> Phase
-    ensures { result ≡ lapses order }
-{
-    if order.is_later() {
-        Phase::Free
-    } else {
-        Phase::Waiting(order)
-    }
-}
-
-fn lapsed_word(phase: &Phase) -> Option<Word>
-    ensures { result ≡ lapsed_word phase.now }
-{
-    match phase {
-        Phase::Waiting(order) if order.is_later() => Some(Word::Lapsed),
-        Phase::Free
-        | Phase::Waiting(_)
-        | Phase::Sending(_)
-        | Phase::Breaking(_)
-        | Phase::Listening(_) => None,
-    }
-}
-
-/// Whether a RANDOMISE that ends at this time is the second one of a pair.
-fn follows(last: Option<u64>, at: u64) -> bool
-    ensures { result ≡ follows last at }
-{
-    match last {
-        None => false,
-        Some(last) => at.saturating_sub(last) <= PAIR,
-    }
-}
-
-/// Whether gear have drawn.
-fn is_drawn(draws: Option<u64>, now: u64) -> bool
-    ensures { result ≡ is_drawn draws now }
-{
-    match draws {
-        None => true,
-        Some(draws) => now.saturating_sub(draws) >= DRAW,
-    }
-}
-
-/// Whether the second frame of a pair may still begin.
-fn is_in_time(first: Option<u64>, now: u64) -> bool
-    ensures { result ≡ is_in_time first now }
-{
-    match first {
-        None => false,
-        Some(first) => now.saturating_sub(first) <= PAIR - FRAME,
+    if word.is_some() {
+        event.word = word;
     }
 }
 
@@ -141,45 +88,29 @@ fn lost_window(window: Window, is_low: bool, since: u32) -> Window
 }
 
 impl Port {
-    /// A port at power-up, or if nothing is known of the bus but its level.
-    pub fn new(is_low: bool, now: u64) -> Port
-        ensures { result ≡ port_at_first is_low now }
-    {
-        Port {
-            called: now,
-            edge: now,
-            is_low,
-            is_powerless: false,
-            receiver: spoilt(is_low),
-            is_over: true,
-            first: None,
-            randomise: None,
-            draws: None,
-            phase: Phase::Free,
-        }
-    }
-
     /// How many µs ago the last edge was.
     fn since(&self, now: u64) -> u32
-        ensures { result ≡ since_edge self.now now }
+        ensures { result ≡ since_edge (seen self.now) now }
     {
         counted(now.saturating_sub(self.edge))
     }
 
     /// A frame that gear may have taken ended at this time.
     fn note(&mut self, frame: Forward, at: u64)
-        ensures { self.new ≡ noted self.old frame at }
+        ensures { seen self.new ≡ noted (seen self.old) frame at }
     {
         if is_randomise(frame) {
-            if follows(self.randomise, at) {
-                self.draws = Some(at);
+            if self.has_randomise != 0 && at.saturating_sub(self.randomise) <= PAIR {
+                self.has_draws = 1;
+                self.draws = at;
             }
-            self.randomise = Some(at);
+            self.has_randomise = 1;
+            self.randomise = at;
         }
     }
 
     fn note_told(&mut self, told: Option<Told>)
-        ensures { self.new ≡ noted_told self.old told }
+        ensures { seen self.new ≡ noted_told (seen self.old) told }
     {
         if let Some(
             Told {
@@ -193,288 +124,342 @@ impl Port {
     }
 
     fn has_no_power(&self, now: u64) -> bool
-        ensures { result ≡ has_no_power self.now now }
+        ensures { result ≡ has_no_power (seen self.now) now }
     {
-        self.is_low && now.saturating_sub(self.edge) >= POWER
+        self.is_low != 0 && now.saturating_sub(self.edge) >= POWER
+    }
+
+    /// Whether nothing has ended that is read, so long after the last edge.
+    fn is_reading_on(&self, since: u32) -> bool
+        ensures { result ≡ true → (told_of (receiver_of self.now) since ≡ None)
+            × (receiver_at (receiver_of self.now) since ≡ receiver_of self.now) }
+    {
+        self.was_low != 0 || since < STOP as u32 || self.reading == 0
+    }
+
+    /// Whether the window is not over yet, and nothing in it.
+    fn is_listening_on(&self, since: u32) -> bool
+        ensures { result ≡ true → (told_after (window_of (seen self.now) (after_of self.now)) since ≡ None)
+            × (window_at (window_of (seen self.now) (after_of self.now)) since
+            ≡ window_of (seen self.now) (after_of self.now)) }
+    {
+        let passed = self.elapsed.saturating_add(since);
+        self.is_reading_on(since) && (passed < WINDOW || self.reading != 0 && passed < GIVEN_UP)
     }
 
     /// No frame of the port is on the bus.
-    fn rest(&mut self, now: u64) -> Event
-        ensures told { result ≡ rest_event self.old now }
-        ensures port { self.new ≡ rested self.old now }
+    fn rest(&mut self, now: u64, event: &mut Event)
+        requires { event.old ≡ only None }
+        ensures told { event.new ≡ rest_event (seen self.old) now }
+        ensures port { seen self.new ≡ rested (seen self.old) now }
     {
         if self.has_no_power(now) {
-            let is_waiting = matches!(self.phase, Phase::Waiting(_));
-            let word = if is_waiting { Some(Word::Lapsed) } else { None };
-            let read = if self.is_powerless {
-                None
-            } else {
-                Some(Read::NoPower)
-            };
-            self.is_powerless = true;
-            self.is_over = true;
-            self.phase = Phase::Free;
-            return Event { word, read };
+            if self.phase == WAITING {
+                event.word = Some(Word::Lapsed);
+            }
+            if self.is_powerless == 0 {
+                event.read = Some(Read::NoPower);
+            }
+            self.is_powerless = 1;
+            self.is_over = 1;
+            self.phase = FREE;
+            return;
         }
         let since = self.since(now);
-        let told = self.receiver.time(since);
+        if self.is_reading_on(since) {
+            return;
+        }
+        let mut receiver = self.receiver();
+        let told = receiver.time(since);
+        self.set_receiver(&receiver);
         self.note_told(told);
-        let read = match told {
-            Some(told) => Some(Read::Frame(told)),
-            None => None,
-        };
-        Event { word: None, read }
+        if let Some(told) = told {
+            event.read = Some(Read::Frame(told));
+        }
     }
 
     /// A frame is destroyed: the bus is driven low.
-    fn destroy(&mut self, frame: Forward, now: u64)
-        ensures { self.new ≡ broken_at self.old frame now }
+    pub(crate) fn destroy(&mut self, now: u64)
+        ensures { seen self.new ≡ broken_at (seen self.old) (order_of self.old).frame now }
     {
-        self.note(frame, now);
-        self.is_over = true;
-        self.phase = Phase::Breaking(now);
+        self.is_over = 1;
+        self.phase = BREAKING;
+        self.since = now;
+        self.note(self.frame(), now);
     }
 
     /// A frame was sent whole.
-    fn hear(&mut self, sending: &Sending, now: u64)
-        ensures { self.new ≡ whole_at self.old sending.now now }
+    pub(crate) fn hear(&mut self, now: u64)
+        ensures { seen self.new ≡ whole_at (seen self.old) (sent_of self.old) now }
     {
-        self.note(sending.order.frame, now);
-        self.phase = Phase::Listening(Listening {
-            asks: sending.order.asks,
-            window: Window {
-                elapsed: counted(self.edge.saturating_sub(sending.driven)),
-                ..Window::new()
-            },
+        let frame = self.frame();
+        self.set_window(&Window {
+            elapsed: counted(self.edge.saturating_sub(self.driven)),
+            ..Window::new()
         });
+        self.note(frame, now);
     }
 
-    fn send_on(&mut self, sending: &Sending, now: u64)
-        ensures { self.new ≡ on_course self.old sending.now now (sent_until sending.now self.old.is_low now) }
+    fn break_off(&mut self, now: u64) -> Option<Word>
+        ensures told { result ≡ break_word self.old.since now }
+        ensures port { seen self.new ≡ broken_off (seen self.old) self.old.since now }
     {
-        match sending.until(self.is_low, now) {
-            Course::Goes(sending) => self.phase = Phase::Sending(sending),
-            Course::Destroyed => self.destroy(sending.order.frame, now),
-            Course::Whole => self.hear(sending, now),
-        }
-    }
-
-    fn break_off(&mut self, since: u64, now: u64) -> Option<Word>
-        ensures told { result ≡ break_word since now }
-        ensures port { self.new ≡ broken_off self.old since now }
-    {
-        if now.saturating_sub(since) < BREAK {
+        if now.saturating_sub(self.since) < BREAK {
             return None;
         }
-        self.receiver = spoilt(self.is_low);
-        self.phase = Phase::Free;
+        self.phase = FREE;
+        self.set_receiver(&spoilt(self.is_low != 0));
         Some(Word::Destroyed)
     }
 
-    fn listen(&mut self, listening: &Listening, now: u64) -> Option<Word>
-        ensures told { result ≡ listened_word self.old listening.now now }
-        ensures port { self.new ≡ listened self.old listening.now now }
+    fn listen(&mut self, now: u64) -> Option<Word>
+        ensures told { result ≡ listened_word (seen self.old) (after_of self.old) now }
+        ensures port { seen self.new ≡ listened (seen self.old) (after_of self.old) now }
     {
-        let mut window = listening.window;
-        match window.time(self.since(now)) {
+        let since = self.since(now);
+        if self.is_listening_on(since) {
+            self.phase = LISTENING;
+            return None;
+        }
+        let mut window = self.window();
+        let told = window.time(since);
+        match told {
             None => {
-                self.phase = Phase::Listening(Listening {
-                    window,
-                    ..*listening
-                });
+                self.set_window(&window);
                 None
             }
             Some(heard) => {
-                let word = heard_word(listening.asks, heard);
-                self.receiver = window.receiver;
-                self.is_over = self.is_over || matches!(word, Word::Destroyed);
-                self.phase = Phase::Free;
+                let word = heard_word(self.asks != 0, heard);
+                if matches!(word, Word::Destroyed) {
+                    self.is_over = 1;
+                }
+                self.phase = FREE;
+                self.set_receiver(&window.receiver);
                 Some(word)
             }
         }
     }
 
     /// Time passes, and the bus keeps its level until now.
-    fn until(&mut self, now: u64) -> Event
-        ensures told { result ≡ event_until self.old now }
-        ensures port { self.new ≡ until self.old now }
+    fn until(&mut self, now: u64, event: &mut Event)
+        requires { event.old ≡ only None }
+        ensures told { event.new ≡ event_until (seen self.old) now }
+        ensures port { seen self.new ≡ until (seen self.old) now }
     {
         self.called = now;
         match self.phase {
-            Phase::Free | Phase::Waiting(_) => self.rest(now),
-            Phase::Sending(sending) => {
-                self.send_on(&sending, now);
-                only(None)
-            }
-            Phase::Breaking(since) => only(self.break_off(since, now)),
-            Phase::Listening(listening) => only(self.listen(&listening, now)),
+            FREE | WAITING => self.rest(now, event),
+            SENDING => self.send_on(now),
+            BREAKING => event.word = self.break_off(now),
+            _ => event.word = self.listen(now),
         }
     }
 
     fn set_level(&mut self, is_low: bool, now: u64)
-        ensures { self.new ≡ with_level self.old is_low now }
+        ensures { seen self.new ≡ with_level (seen self.old) is_low now }
     {
         self.called = now;
         self.edge = now;
-        self.is_low = is_low;
-        self.is_powerless = self.is_powerless && is_low;
+        self.is_low = u8::from(is_low);
+        if !is_low {
+            self.is_powerless = 0;
+        }
+    }
+
+    /// The word of a later frame that waits, which lapses once others sent.
+    fn lapsing(&self) -> Option<Word>
+        ensures { result ≡ lapsed_word (seen self.now).phase }
+    {
+        if self.phase == WAITING && self.priority == 1 {
+            Some(Word::Lapsed)
+        } else {
+            None
+        }
+    }
+
+    fn read_edge(&mut self, is_low: bool, now: u64)
+        ensures { seen self.new ≡ record (seen self.old) {
+          receiver = receiver_after (seen self.old).receiver is_low (since_edge (seen self.old) now);
+        } }
+    {
+        let mut receiver = self.receiver();
+        receiver.edge(is_low, self.since(now));
+        self.set_receiver(&receiver);
+    }
+
+    /// An edge to another level, before it is the level of the bus.
+    fn turn_in(&mut self, is_low: bool, now: u64)
+        ensures { seen self.new ≡ edge_in (seen self.old).phase (seen self.old) is_low now }
+    {
+        match self.phase {
+            FREE => {
+                self.is_over = 1;
+                self.read_edge(is_low, now);
+            }
+            WAITING => {
+                self.is_over = 1;
+                if self.priority == 1 {
+                    self.phase = FREE;
+                    self.read_edge(is_low, now);
+                } else {
+                    self.read_edge(is_low, now);
+                }
+            }
+            SENDING => {
+                if self.drives_low() != is_low {
+                    self.destroy(now);
+                }
+            }
+            BREAKING => {}
+            _ => {
+                let mut window = self.window();
+                window.edge(is_low, self.since(now));
+                self.set_window(&window);
+            }
+        }
     }
 
     /// An edge to another level.
-    fn turn(&mut self, is_low: bool, now: u64) -> Option<Word>
-        ensures told { result ≡ lapsed_word self.old.phase }
-        ensures port { self.new ≡ edged self.old is_low now }
+    fn turn(&mut self, is_low: bool, now: u64, event: &mut Event)
+        ensures told { event.new ≡ also event.old (lapsed_word (seen self.old).phase) }
+        ensures port { seen self.new ≡ edged (seen self.old) is_low now }
     {
-        let since = self.since(now);
-        let word = lapsed_word(&self.phase);
+        tell(event, self.lapsing());
+        self.turn_in(is_low, now);
+        self.set_level(is_low, now);
+    }
+
+    /// An edge may have been lost, before the level of the bus is known.
+    fn lose_in(&mut self, is_low: bool, now: u64)
+        ensures { seen self.new ≡ record (lost_in (seen self.old).phase (seen self.old) is_low now) { is_over = true } }
+    {
+        self.is_over = 1;
         match self.phase {
-            Phase::Free => {
-                self.receiver.edge(is_low, since);
-                self.is_over = true;
-            }
-            Phase::Waiting(order) => {
-                self.receiver.edge(is_low, since);
-                self.is_over = true;
-                self.phase = lapses(order);
-            }
-            Phase::Sending(sending) => {
-                if sending.is_low() != is_low {
-                    self.destroy(sending.order.frame, now);
+            FREE => self.set_receiver(&spoilt(is_low)),
+            WAITING => {
+                if self.priority == 1 {
+                    self.phase = FREE;
+                    self.set_receiver(&spoilt(is_low));
+                } else {
+                    self.set_receiver(&spoilt(is_low));
                 }
             }
-            Phase::Breaking(_) => {}
-            Phase::Listening(listening) => {
-                let mut window = listening.window;
-                window.edge(is_low, since);
-                self.phase = Phase::Listening(Listening {
-                    window,
-                    ..listening
-                });
+            SENDING => self.destroy(now),
+            BREAKING => {}
+            _ => {
+                let window = lost_window(self.window(), is_low, self.since(now));
+                self.set_window(&window);
             }
         }
-        self.set_level(is_low, now);
-        word
     }
 
     /// An edge may have been lost.
-    fn lose(&mut self, is_low: bool, now: u64) -> Option<Word>
-        ensures told { result ≡ lapsed_word self.old.phase }
-        ensures port { self.new ≡ lost self.old is_low now }
+    fn lose(&mut self, is_low: bool, now: u64, event: &mut Event)
+        ensures told { event.new ≡ also event.old (lapsed_word (seen self.old).phase) }
+        ensures port { seen self.new ≡ lost (seen self.old) is_low now }
     {
-        let word = lapsed_word(&self.phase);
-        match self.phase {
-            Phase::Free => self.receiver = spoilt(is_low),
-            Phase::Waiting(order) => {
-                self.receiver = spoilt(is_low);
-                self.phase = lapses(order);
-            }
-            Phase::Sending(sending) => self.destroy(sending.order.frame, now),
-            Phase::Breaking(_) => {}
-            Phase::Listening(listening) => {
-                self.phase = Phase::Listening(Listening {
-                    window: lost_window(listening.window, is_low, self.since(now)),
-                    ..listening
-                });
-            }
-        }
-        self.is_over = true;
+        tell(event, self.lapsing());
+        self.lose_in(is_low, now);
         self.set_level(is_low, now);
-        word
     }
 
     /// Whether a frame that waits may begin.
-    fn may_begin(&self, order: &Order, now: u64) -> bool
-        ensures { result ≡ may_begin self.now order.now now }
+    fn may_begin(&self, now: u64) -> bool
+        ensures { result ≡ may_begin (seen self.now) (order_of self.now) now }
     {
-        !self.is_low
-            && now.saturating_sub(self.edge) >= settling(order.priority) + u64::from(order.drawn)
-            && is_drawn(self.draws, now)
+        self.is_low == 0
+            && now.saturating_sub(self.edge) >= settling(self.priority) + u64::from(self.drawn)
+            && (self.has_draws == 0 || now.saturating_sub(self.draws) >= DRAW)
     }
 
-    fn is_too_late(&self, order: &Order, now: u64) -> bool
-        ensures { result ≡ is_too_late self.now order.now now }
+    fn is_too_late(&self, now: u64) -> bool
+        ensures { result ≡ is_too_late (seen self.now) (order_of self.now) now }
     {
-        matches!(order.half, Half::Second) && !is_in_time(self.first, now)
+        self.half > 1 && !(self.has_first != 0 && now.saturating_sub(self.first) <= PAIR - FRAME)
     }
 
-    /// A frame begins, or lapses.
-    fn begin(&mut self, order: &Order, now: u64) -> Option<Word>
-        ensures told { result ≡ (if is_too_late self.old order.now now then Some Lapsed else None) }
-        ensures port { self.new ≡ begun self.old order.now now }
+    /// A frame that waits begins, or lapses.
+    fn begin(&mut self, now: u64) -> Option<Word>
+        ensures told { result ≡ (if is_too_late (seen self.old) (order_of self.old) now then Some Lapsed else None) }
+        ensures port { seen self.new ≡ begun (seen self.old) (order_of self.old) now }
     {
-        if self.is_too_late(order, now) {
-            self.is_over = true;
-            self.phase = Phase::Free;
+        if self.is_too_late(now) {
+            self.is_over = 1;
+            self.phase = FREE;
             return Some(Word::Lapsed);
         }
-        self.is_over = false;
-        self.first = match order.half {
-            Half::First => Some(now),
-            Half::Whole | Half::Second => None,
-        };
-        self.phase = Phase::Sending(Sending::begin(*order, now));
+        self.is_over = 0;
+        self.has_first = u8::from(self.half == 1);
+        self.first = now;
+        self.begin_bits(now);
         None
     }
 
     fn tick(&mut self, now: u64) -> Option<Word>
-        ensures told { result ≡ timed_word self.old.phase self.old now }
-        ensures port { self.new ≡ timed self.old now }
+        ensures told { result ≡ timed_word (seen self.old).phase (seen self.old) now }
+        ensures port { seen self.new ≡ timed (seen self.old) now }
     {
-        if let Phase::Waiting(order) = self.phase {
-            if self.may_begin(&order, now) {
-                return self.begin(&order, now);
-            }
+        if self.phase == WAITING && self.may_begin(now) {
+            return self.begin(now);
         }
         None
     }
 
     /// The timer.
-    pub fn timer(&mut self, now: u64) -> Result<Event, Refusal>
-        ensures told { result ≡ timer_told self.old now }
-        ensures port { self.new ≡ timer_after self.old now }
+    pub fn timer(&mut self, now: u64, event: &mut Event) -> Result<(), Refusal>
+        ensures told { answered result event.new ≡ timer_told (seen self.old) now }
+        ensures port { seen self.new ≡ timer_after (seen self.old) now }
+        ensures refused { IsErr result → (self.new ≡ self.old) × (event.new ≡ event.old) }
     {
         if now < self.called {
             return Err(Refusal::Backwards);
         }
-        let event = self.until(now);
+        *event = NOTHING;
+        self.until(now, event);
         let word = self.tick(now);
-        Ok(also(event, word))
+        tell(event, word);
+        Ok(())
     }
 
     /// An edge of the bus, after which it is low or high. If it has that level already, an edge was lost.
-    pub fn edge(&mut self, is_low: bool, now: u64) -> Result<Event, Refusal>
-        ensures told { result ≡ edge_told self.old is_low now }
-        ensures port { self.new ≡ edge_after self.old is_low now }
+    pub fn edge(&mut self, is_low: bool, now: u64, event: &mut Event) -> Result<(), Refusal>
+        ensures told { answered result event.new ≡ edge_told (seen self.old) is_low now }
+        ensures port { seen self.new ≡ edge_after (seen self.old) is_low now }
+        ensures refused { IsErr result → (self.new ≡ self.old) × (event.new ≡ event.old) }
     {
         if now < self.called {
             return Err(Refusal::Backwards);
         }
-        if self.is_low == is_low {
-            return Ok(only(self.lose(is_low, now)));
+        *event = NOTHING;
+        if (self.is_low != 0) == is_low {
+            self.lose(is_low, now, event);
+        } else {
+            self.until(now, event);
+            self.turn(is_low, now, event);
         }
-        let event = self.until(now);
-        let word = self.turn(is_low, now);
-        Ok(also(event, word))
+        Ok(())
     }
 
     /// An edge may have been lost; the bus is low or high now.
-    pub fn lost(&mut self, is_low: bool, now: u64) -> Result<Event, Refusal>
-        ensures told { result ≡ lost_told self.old is_low now }
-        ensures port { self.new ≡ lost_after self.old is_low now }
+    pub fn lost(&mut self, is_low: bool, now: u64, event: &mut Event) -> Result<(), Refusal>
+        ensures told { answered result event.new ≡ lost_told (seen self.old) is_low now }
+        ensures port { seen self.new ≡ lost_after (seen self.old) is_low now }
+        ensures refused { IsErr result → (self.new ≡ self.old) × (event.new ≡ event.old) }
     {
         if now < self.called {
             return Err(Refusal::Backwards);
         }
-        Ok(only(self.lose(is_low, now)))
+        *event = NOTHING;
+        self.lose(is_low, now, event);
+        Ok(())
     }
 
     fn refusal(&self, order: &Order, now: u64) -> Option<Refusal>
-        ensures { result ≡ refused self.now order.now now }
+        ensures { result ≡ refused (seen self.now) order.now now }
     {
         if now < self.called {
-            return Some(Refusal::Backwards);
-        }
-        if matches!(self.phase, Phase::Free) {
+            Some(Refusal::Backwards)
+        } else if self.phase == FREE {
             order.refusal()
         } else {
             Some(Refusal::Busy)
@@ -483,74 +468,76 @@ impl Port {
 
     /// Whether the transaction of a later frame is over.
     fn is_gone(&self, order: &Order) -> bool
-        ensures { result ≡ is_gone self.now order.now }
+        ensures { result ≡ is_gone (seen self.now) order.now }
     {
         order.is_later()
-            && (self.is_over || matches!(order.half, Half::Second) && self.first.is_none())
+            && (self.is_over != 0 || matches!(order.half, Half::Second) && self.has_first == 0)
     }
 
     fn take(&mut self, order: &Order) -> Option<Word>
-        ensures told { result ≡ taken_word self.old order.now }
-        ensures port { self.new ≡ taken self.old order.now }
+        ensures told { result ≡ taken_word (seen self.old) order.now }
+        ensures port { seen self.new ≡ taken (seen self.old) order.now }
     {
         if self.is_gone(order) {
-            self.is_over = true;
+            self.is_over = 1;
             return Some(Word::Lapsed);
         }
-        self.phase = Phase::Waiting(*order);
+        self.set_order(order);
         None
     }
 
     /// A frame is handed in.
-    pub fn send(&mut self, order: &Order, now: u64) -> Result<Event, Refusal>
-        ensures told { result ≡ send_told self.old order.now now }
-        ensures port { self.new ≡ send_after self.old order.now now }
+    pub fn send(&mut self, order: &Order, now: u64, event: &mut Event) -> Result<(), Refusal>
+        ensures told { answered result event.new ≡ send_told (seen self.old) order.now now }
+        ensures port { seen self.new ≡ send_after (seen self.old) order.now now }
+        ensures refused { IsErr result → (self.new ≡ self.old) × (event.new ≡ event.old) }
     {
-        match self.refusal(order, now) {
-            Some(refusal) => Err(refusal),
-            None => {
-                let event = self.until(now);
-                let word = self.take(order);
-                Ok(also(event, word))
-            }
+        if let Some(refusal) = self.refusal(order, now) {
+            return Err(refusal);
         }
+        *event = NOTHING;
+        self.until(now, event);
+        let word = self.take(order);
+        tell(event, word);
+        Ok(())
     }
 
     /// When a frame that waits may begin, if no edge comes before.
-    fn begins(&self, order: &Order) -> u64
-        ensures { result ≡ begins_at self.now order.now }
+    fn begins(&self) -> u64
+        ensures { result ≡ begins_at (seen self.now) (order_of self.now) }
     {
-        let rest = settling(order.priority) + u64::from(order.drawn);
-        let draws = match self.draws {
-            None => 0,
-            Some(draws) => draws.saturating_add(DRAW),
+        let rest = settling(self.priority) + u64::from(self.drawn);
+        let draws = if self.has_draws == 0 {
+            0
+        } else {
+            self.draws.saturating_add(DRAW)
         };
         self.edge.saturating_add(rest).max(draws)
     }
 
     fn rest_due(&self, begin: Option<u64>) -> Option<u64>
-        ensures { result ≡ rest_due self.now begin }
+        ensures { result ≡ rest_due (seen self.now) begin }
     {
-        if self.is_low {
-            if self.is_powerless && begin.is_none() {
+        if self.is_low != 0 {
+            if self.is_powerless != 0 && begin.is_none() {
                 None
             } else {
                 Some(self.edge.saturating_add(POWER))
             }
-        } else if matches!(self.receiver.reading, Reading::Idle) {
+        } else if self.reading == 0 {
             begin
         } else {
             Some(self.edge.saturating_add(STOP))
         }
     }
 
-    fn window_due(&self, window: &Window) -> u64
-        ensures { result ≡ window_due self.now window.now }
+    fn window_due(&self) -> u64
+        ensures { result ≡ window_due (seen self.now) (window_of (seen self.now) (after_of self.now)) }
     {
-        let left = u64::from(WINDOW.saturating_sub(window.elapsed));
-        let left = if self.is_low {
-            u64::from(GIVEN_UP.saturating_sub(window.elapsed))
-        } else if matches!(window.receiver.reading, Reading::Idle) {
+        let left = u64::from(WINDOW.saturating_sub(self.elapsed));
+        let left = if self.is_low != 0 {
+            u64::from(GIVEN_UP.saturating_sub(self.elapsed))
+        } else if self.reading == 0 {
             left
         } else {
             left.max(STOP)
@@ -560,18 +547,18 @@ impl Port {
 
     /// What to drive, and when to call again; look after each call.
     pub fn drive(&self) -> Drive
-        ensures { result ≡ drive_of self.now }
+        ensures { result ≡ drive_of (seen self.now) }
     {
-        let (is_low, at, next) = match &self.phase {
-            Phase::Free => (false, self.rest_due(None), false),
-            Phase::Waiting(order) => (false, self.rest_due(Some(self.begins(order))), false),
-            Phase::Sending(sending) => (
-                sending.is_low(),
-                Some(sending.since.saturating_add(HALF_BIT)),
-                sending.next(),
+        let (is_low, at, next) = match self.phase {
+            FREE => (false, self.rest_due(None), false),
+            WAITING => (false, self.rest_due(Some(self.begins())), false),
+            SENDING => (
+                self.drives_low(),
+                Some(self.since.saturating_add(HALF_BIT)),
+                self.drives_low_next(),
             ),
-            Phase::Breaking(since) => (true, Some(since.saturating_add(BREAK)), false),
-            Phase::Listening(listening) => (false, Some(self.window_due(&listening.window)), false),
+            BREAKING => (true, Some(self.since.saturating_add(BREAK)), false),
+            _ => (false, Some(self.window_due()), false),
         };
         Drive { is_low, at, next }
     }

@@ -6,7 +6,7 @@ use Rattle.dali_standing.specs.declared.refusal.Refusal.TheVariants as refusal
 use Rattle.dali_progress.proofs.Drawing as drawing
 use Rattle.dali_progress.proofs.Start.Goes as start
 use Rattle.dali_progress.proofs.Survey.Goes as survey
-use Rattle.dali_progress.proofs.{Along.{Measure, Argument, RunsAll, runs_all, few_all, with_left, goes_by}, Lone.IsLone, Start.Goes.of_start}
+use Rattle.dali_progress.proofs.{Along.{Measure, Argument, Runs, RunsAll, runs_all, few_all, with_left, goes_by}, Lone.IsLone, Start.Goes.of_start}
 use Rattle.dali_progress.proofs.{Start.Numbers.{LeavesDraws, start_draws}, Survey.Goes.of_survey, Survey.Numbers.{HasNumbers, survey_draws}}
 
 -- THE LAWS BY CASES, over what is proved of a start and of a survey.
@@ -29,16 +29,24 @@ abbrev pub measure : Beginning → SiteState → ℕ → Measure
 measure ByStart s c = of_start (world s).gear
 measure BySurvey s c = of_survey (survey.began_at s c)
 
-argues : (b : Beginning) (s : SiteState) (c : ℕ) → Argument (measure b s c)
+pub argues : (b : Beginning) (s : SiteState) (c : ℕ) → Argument (measure b s c)
 argues ByStart s c = start.argument (world s).gear
 argues BySurvey s c = survey.argument (survey.began_at s c)
+
+pub begun_runs : (b : Beginning) (s : SiteState) (c : ℕ) → BeginsAlone b s c → Runs (measure b s c) s c (most_frames b (bare s))
+begun_runs ByStart s c a = start.starts s c a
+begun_runs BySurvey s c a = survey.starts s c a
 
 pub runs_after : (b : Beginning) (s : SiteState) (c : ℕ) (es : List Event) → BeginsAlone b s c → Rounds (by_survey b) s c es
     → RunsAll (measure b s c) s c (most_frames b (bare s)) es
 runs_after ByStart s c es a rounds =
-    runs_all (measure ByStart s c) (argues ByStart s c) s c (most_frames ByStart (bare s)) es (start.starts s c a) rounds
+    runs_all (measure ByStart s c) (argues ByStart s c) s c (most_frames ByStart (bare s)) es (begun_runs ByStart s c a) rounds
 runs_after BySurvey s c es a rounds =
-    runs_all (measure BySurvey s c) (argues BySurvey s c) s c (most_frames BySurvey (bare s)) es (survey.starts s c a) rounds
+    runs_all (measure BySurvey s c) (argues BySurvey s c) s c (most_frames BySurvey (bare s)) es (begun_runs BySurvey s c a) rounds
+
+pub rounds_by : (b : Beginning) (first s : SiteState) (c : ℕ) (es : List Event) → Rounds (by_survey b) s c es → Rounds (measure b first c).by s c es
+rounds_by ByStart first s c es rounds = rounds
+rounds_by BySurvey first s c es rounds = rounds
 
 -- NO MORE FRAMES are sent than these, and no more events come
 pub bounded : (b : Beginning) (s : SiteState) (c : ℕ) (es : List Event) → BeginsAlone b s c → Rounds (by_survey b) s c es → frames es ≤ most_frames b (bare s)

@@ -58,6 +58,7 @@ pub use Rattle.dali_controller.specs.Machine.{machine_committed, heard_after, ma
 pub use Rattle.dali_controller.{specs.Machine.{tries_after, asked_at, asked_after_silence, asked_after, silent_after}, specs.Next.{course_by, next_course}}
 pub use Rattle.dali_controller.specs.Next.{beginning, begins_at, goes_on_to, asked_once, course_on, at_rest, asked_on, silenced, silenced_on, missed_again}
 pub use Rattle.dali_controller.specs.Next.{is_failed, most_silent, unanswered, hunted_in, hunted_to, has_open, may_draw, asks_again, full, ungiven, undrawn}
+pub use Rattle.dali_controller.specs.Next.{giving_up}
 pub use Rattle.dali_controller.{specs.Next.{is_blocked, called_to, compared_in, blocked, nobody_left, question, is_hunting, BeginsWith}, specs.Orders.IsGiven}
 pub use Rattle.dali_controller.specs.Orders.{IsSought, IsAnswered, IsOrdered, AfterFinding, AfterReserved, AfterMaskBy, AfterMaskOn, AfterMaskSurveyed}
 pub use Rattle.dali_controller.specs.Orders.{machine_after, machine_ordered, IsAddressing, IsAllowed, asked_by, MayCommit, AfterEnrolled, IsBegun, IsCaused}

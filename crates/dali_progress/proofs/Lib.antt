@@ -25,3 +25,4 @@ mod Running
 mod Ended
 mod Refused
 mod Replaced
+mod InTurn

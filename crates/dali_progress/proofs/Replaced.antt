@@ -155,23 +155,23 @@ others_named s c es e alone rounds ended k b has seen =
 few_events : (n : ℕ) → n ≤ 1 → (limit : ℕ) → 1092 < limit → most_events BySurvey n < limit + 1
 few_events n few limit enough = omega (arith, few, enough)
 
-pub run_served : (limit g a : ℕ) (n between : Installation) (sent : ℕ) (text : List ℕ) (m : Installation) → RanAlone BySurvey limit n between sent text m
-    → IsSettledAt n.site 0 → HasNew n.site 0 g a → HasRoom BySurvey n.site → 0 < length (world n.site).left → 1092 < limit
-    → (e : End) × HasEnded m.site 0 e × IsServed n.site m.site 0 g e
-run_served limit g a n between sent text m ran settled new room numbers enough = (
+pub run_served : (c limit g a : ℕ) (n between : Installation) (sent : ℕ) (text : List ℕ) (m : Installation) → RanAlone BySurvey c limit n between sent text m
+    → IsSettledAt n.site c → HasNew n.site c g a → HasRoom BySurvey n.site c → 0 < length (world n.site).left → 1092 < limit
+    → (e : End) × HasEnded m.site c e × IsServed n.site m.site c g e
+run_served c limit g a n between sent text m ran settled new room numbers enough = (
   by.outcome,
   by.ended,
-  subst (λ (t : SiteState). IsServed n.site t 0 g by.outcome) (sym by.is)
-      (served n.site 0 g a by.events by.outcome ran.alone settled new by.rounds (subst (λ (t : SiteState). HasEnded t 0 by.outcome) by.is by.ended)),
+  subst (λ (t : SiteState). IsServed n.site t c g by.outcome) (sym by.is)
+      (served n.site c g a by.events by.outcome ran.alone settled new by.rounds (subst (λ (t : SiteState). HasEnded t c by.outcome) by.is by.ended)),
 )
   where
     once : (without left : ℕ) → without ≤ 1 → 0 < left → without ≤ left
     once without left few some = omega (arith, few, some)
 
-    by : HasEndedBy BySurvey n.site m.site 0
+    by : HasEndedBy BySurvey n.site m.site c
     by =
-        run_commissions BySurvey limit n between sent text m ran (few_events (bare n.site) (one_new n.site 0 g a new) limit enough) room
-        (once (bare n.site) (length (world n.site).left) (one_new n.site 0 g a new) numbers)
+        run_commissions c BySurvey limit n between sent text m ran (few_events (bare n.site) (one_new n.site c g a new) limit enough) room
+        (once (bare n.site) (length (world n.site).left) (one_new n.site c g a new) numbers)
 
 -- ---------------------------------------------------------------- what is vacant
 
@@ -235,11 +235,12 @@ new_site p queue room g a plan one is = record {
 
 -- A NEW INSTALLATION in which one gear is new: it gets the address
 pub new_served : (limit g a : ℕ) (p : Plan) (between : Installation) (sent : ℕ) (text : List ℕ) (m : Installation) → IsPlan p → p.gear ≤ 128
-    → p.blocks ≡ only a ∷ [] → IsReplacing p g a → 0 < length p.draws → 1092 < limit → HasBegun true (installation_of p) between → Ran limit between sent text m
+    → p.blocks ≡ only a ∷ [] → IsReplacing p g a → 0 < length p.draws → 1092 < limit → HasBegun true 0 (installation_of p) between
+    → Ran limit between sent text m
     → (e : End) × HasEnded m.site 0 e × IsServed (installation_of p).site m.site 0 g e × HoldsShort (world m.site) g a
 new_served limit g a p between sent text m plan few one is draws enough begins ran =
     let done =
-    run_served limit g a (installation_of p) between sent text m (ran_new BySurvey limit p (only a) between sent text m plan one begins ran)
+    run_served 0 limit g a (installation_of p) between sent text m (ran_new BySurvey limit p (only a) between sent text m plan one begins ran)
     (begins_settled (installation_of p).site 0 (begins_new p 64 65536 (only a) plan one)) (new_site p 64 65536 g a plan one is)
     (room_new BySurvey p plan (inr refl) few) draws enough in
     let within : InBlock (only a) done.2.address =

@@ -6,3 +6,4 @@ pub mod Census
 pub mod Ends
 pub mod Misheard
 pub mod Replaced
+pub mod InTurn

@@ -1,19 +1,20 @@
 //! What is proved of a whole commissioning. Programs don't call these.
 //!
-//! Seven speak of commissioning that nothing disturbs: of a site on which a controller begins alone, with nothing on
+//! Eight speak of commissioning that nothing disturbs: of a site on which a controller begins alone, with nothing on
 //! the bus (`BeginsAlone`), in one of two ways: by Start, with nothing kept (`ByStart`); or by a survey, with any
 //! records (`BySurvey`). And of a list of events that rounds add to its log (`Rounds`): the controller acts on what is
 //! due, and its commits succeed; frames that are next are sent, and what the gear answer is heard. So no other
 //! controller acts meanwhile, no frame is destroyed, no answer is lost or damaged, the bus never lapses, and no gear's
 //! power comes or goes.
 //!
-//! Three of the seven speak, also or alone, of the runs of rounds that a replay makes of an installation with one
-//! controller (`RanAlone`): each is such a list of events. One law more speaks of rounds in which one gear is misheard.
+//! Three of the eight speak, also or alone, of the runs of rounds that a replay makes of an installation in which one
+//! controller alone has a turn (`RanAlone`): each is such a list of events. One law more speaks of rounds in which one
+//! gear is misheard.
 //!
 //! Three speak of what a survey promises of a machine on any bus (`IsCourse`), and one of used gear and the log of a
 //! site, whatever is disturbed.
 
-ghost use Rattle.std.specs.Prelude.{◌≡◌, ◌⊎◌, ℕ, ◌+◌, ◌*◌, ◌<◌, ◌≤◌, true, List, [], ◌∷◌, length, Some};
+ghost use Rattle.std.specs.Prelude.{◌≡◌, ◌⊎◌, ℕ, ◌+◌, ◌*◌, ◌<◌, ◌≤◌, Bool, true, List, [], ◌∷◌, length, Some};
 ghost use Rattle.std.specs.List.{AllByRecursion};
 ghost use Rattle.dali_frame.specs.declared.frames.Forward.{Forward};
 ghost use Rattle.dali_frame.specs.declared.numbers.SearchAddress.{SearchAddress};
@@ -49,6 +50,12 @@ ghost use Rattle.dali_progress.specs.Rounds.{GoesOn, HasEnded};
 ghost use Rattle.dali_progress.specs.Ends.{IsTrueEnd, table_at, NamesAll, CommitsNothing};
 ghost use Rattle.dali_progress.specs.Misheard.{RoundsBut, IsTrueEndBut};
 ghost use Rattle.dali_progress.specs.Replaced.{IsVacant, HasVacant, HasNew, IsReplacing, only, IsServed, AreNamed};
+ghost use Rattle.dali_events.specs.Allowed.{Allowed};
+ghost use Rattle.dali_events.specs.Laws.{TablesAgree};
+ghost use Rattle.dali_events.specs.declared.event.Event.TheVariants.{Up};
+ghost use Rattle.dali_world.specs.Site.{site_logged};
+ghost use Rattle.dali_progress.specs.InTurn.{IsStill, Turn, TakesTurn, TakeTurns, left_by, after_turns, turn_frames};
+ghost use Rattle.dali_progress.specs.InTurn.{HasFoundAll, AreSettled, HaveVacant, AllAreNamed};
 ghost use Rattle.dali_progress.specs.Running.{RanAlone, HasBegun, begun, SparesUsedOf, HasRoom, HasEndedBy, WasRefused};
 ghost use Rattle.dali_progress.specs.Surveyed.{Step, IsCourse, ArePlain, WasHeard, IsAccounted, HasSurveyed};
 ghost use Rattle.dali_progress.specs.Surveyed.{stage_told};
@@ -156,30 +163,30 @@ pub fn one_gear_blocks_nobody()
         → IsTrueEndBut g (site_after s es) c e }
 {}
 
-/// A RUN OF ENOUGH ROUNDS ENDS. On an installation with one controller that begins alone, with n gear that have power
-/// and no short address, a run ends with the end of the controller, which is true, or at a call that was refused
-/// (`ends`): a run of more than 333 n + 31 rounds if it starts; and, once it began by a survey (`survey 0` of a
-/// script), one of more than 318 n + 774. A run of any length sends no more frames than `it_is_bounded` says
-/// (`frames`).
+/// A RUN OF ENOUGH ROUNDS ENDS. On an installation in which one controller begins alone, and nothing is due for the
+/// others, which are down or have ended, with n gear that have power and no short address, a run ends with the end of
+/// the controller, which is true, or at a call that was refused (`ends`): a run of more than 333 n + 31 rounds if it
+/// starts; and, once it began by a survey (`survey 0` of a script), one of more than 318 n + 774. A run of any length
+/// sends no more frames than `it_is_bounded` says (`frames`).
 ///
 /// If a request may wait, and the log has room for all events to come, and used gear are left alone, the one call
 /// that may be refused is that of the bus, if the gear would draw more numbers than are left (`room`). Used gear are
 /// left alone if none has an address of the block, or all have power and the controller surveys. So it is on a
 /// new installation of a plan with one controller and at most 128 gear, also used ones, which have power there (`new`).
 pub fn a_run_ends()
-    ensures frames { (b : Beginning) (limit : ℕ) (n between : Installation) (sent : ℕ) (text : List ℕ)
-        (m : Installation) → RanAlone b limit n between sent text m → sent ≤ most_frames b (bare n.site) }
-    ensures ends { (b : Beginning) (limit : ℕ) (n between : Installation) (sent : ℕ) (text : List ℕ)
-        (m : Installation) → RanAlone b limit n between sent text m
+    ensures frames { (b : Beginning) (c limit : ℕ) (n between : Installation) (sent : ℕ) (text : List ℕ)
+        (m : Installation) → RanAlone b c limit n between sent text m → sent ≤ most_frames b (bare n.site) }
+    ensures ends { (b : Beginning) (c limit : ℕ) (n between : Installation) (sent : ℕ) (text : List ℕ)
+        (m : Installation) → RanAlone b c limit n between sent text m
         → most_events b (bare n.site) < limit + begun (by_survey b)
-        → HasEndedBy b n.site m.site 0 ⊎ WasRefused between sent text m }
-    ensures room { (b : Beginning) (limit : ℕ) (n between : Installation) (sent : ℕ) (text : List ℕ)
-        (m : Installation) → RanAlone b limit n between sent text m
-        → most_events b (bare n.site) < limit + begun (by_survey b) → HasRoom b n.site
-        → HasEndedBy b n.site m.site 0 ⊎ IsPumpRefused m.site trouble.None refusal.DrawsSpent }
+        → HasEndedBy b n.site m.site c ⊎ WasRefused between sent text m }
+    ensures room { (b : Beginning) (c limit : ℕ) (n between : Installation) (sent : ℕ) (text : List ℕ)
+        (m : Installation) → RanAlone b c limit n between sent text m
+        → most_events b (bare n.site) < limit + begun (by_survey b) → HasRoom b n.site c
+        → HasEndedBy b n.site m.site c ⊎ IsPumpRefused m.site trouble.None refusal.DrawsSpent }
     ensures new { (b : Beginning) (limit : ℕ) (p : Plan) (k : Block) (between : Installation) (sent : ℕ)
         (text : List ℕ) (m : Installation) → IsPlan p → SparesUsedOf b p → p.blocks ≡ k ∷ [] → p.gear ≤ 128
-        → most_events b p.gear < limit + begun (by_survey b) → HasBegun (by_survey b) (installation_of p) between
+        → most_events b p.gear < limit + begun (by_survey b) → HasBegun (by_survey b) 0 (installation_of p) between
         → Ran limit between sent text m
         → HasEndedBy b (installation_of p).site m.site 0 ⊎ IsPumpRefused m.site trouble.None refusal.DrawsSpent }
 {}
@@ -188,14 +195,14 @@ pub fn a_run_ends()
 /// address, no call is refused, and the run ends with the end of the controller, which is true (`alone`). So it does on
 /// a new installation of such a plan with no fewer numbers than gear (`new`), however the controller begins.
 pub fn a_run_commissions()
-    ensures alone { (b : Beginning) (limit : ℕ) (n between : Installation) (sent : ℕ) (text : List ℕ)
-        (m : Installation) → RanAlone b limit n between sent text m
-        → most_events b (bare n.site) < limit + begun (by_survey b) → HasRoom b n.site
-        → bare n.site ≤ length (world n.site).left → HasEndedBy b n.site m.site 0 }
+    ensures alone { (b : Beginning) (c limit : ℕ) (n between : Installation) (sent : ℕ) (text : List ℕ)
+        (m : Installation) → RanAlone b c limit n between sent text m
+        → most_events b (bare n.site) < limit + begun (by_survey b) → HasRoom b n.site c
+        → bare n.site ≤ length (world n.site).left → HasEndedBy b n.site m.site c }
     ensures new { (b : Beginning) (limit : ℕ) (p : Plan) (k : Block) (between : Installation) (sent : ℕ)
         (text : List ℕ) (m : Installation) → IsPlan p → SparesUsedOf b p → p.blocks ≡ k ∷ [] → p.gear ≤ 128
         → p.gear ≤ length p.draws → most_events b p.gear < limit + begun (by_survey b)
-        → HasBegun (by_survey b) (installation_of p) between → Ran limit between sent text m
+        → HasBegun (by_survey b) 0 (installation_of p) between → Ran limit between sent text m
         → HasEndedBy b (installation_of p).site m.site 0 }
 {}
 
@@ -229,17 +236,49 @@ pub fn a_replaced_gear_gets_the_address()
         → KeepsAddresses (world s) (world (site_after s es)) }
     ensures named { (s : SiteState) (c : ℕ) (es : List Event) (e : End) → BeginsAlone BySurvey s c → Rounds true s c es
         → HasEnded (site_after s es) c e → AreNamed s (site_after s es) c }
-    ensures run { (limit g a : ℕ) (n between : Installation) (sent : ℕ) (text : List ℕ) (m : Installation)
-        → RanAlone BySurvey limit n between sent text m → IsSettledAt n.site 0 → HasNew n.site 0 g a
-        → HasRoom BySurvey n.site → 0 < length (world n.site).left → 1092 < limit
-        → (e : End) × HasEnded m.site 0 e × IsServed n.site m.site 0 g e }
+    ensures run { (c limit g a : ℕ) (n between : Installation) (sent : ℕ) (text : List ℕ) (m : Installation)
+        → RanAlone BySurvey c limit n between sent text m → IsSettledAt n.site c → HasNew n.site c g a
+        → HasRoom BySurvey n.site c → 0 < length (world n.site).left → 1092 < limit
+        → (e : End) × HasEnded m.site c e × IsServed n.site m.site c g e }
     ensures vacant { (s : SiteState) (c a : ℕ) → BeginsAlone ByStart s c → InBlock (block_at s.plan c) a
         → (Has (used_shorts s.plan.used) a → ⊥) → IsVacant s a }
     ensures new { (limit g a : ℕ) (p : Plan) (between : Installation) (sent : ℕ) (text : List ℕ) (m : Installation)
         → IsPlan p → p.gear ≤ 128 → p.blocks ≡ only a ∷ [] → IsReplacing p g a → 0 < length p.draws → 1092 < limit
-        → HasBegun true (installation_of p) between → Ran limit between sent text m
+        → HasBegun true 0 (installation_of p) between → Ran limit between sent text m
         → (e : End) × HasEnded m.site 0 e × IsServed (installation_of p).site m.site 0 g e
         × HoldsShort (world m.site) g a }
+{}
+
+/// CONTROLLERS SURVEY ONE AFTER THE OTHER. From any history after which nothing waits (`IsStill`), with whatever
+/// records, a controller that comes up begins alone (`comes`). So the laws of one survey alone hold of it; and of a
+/// start, if it kept nothing. Once it has ended nothing waits (`rests`). Let controllers survey in turn, each alone and
+/// undisturbed to its end (`TakeTurns`); then nothing waits again (`still`).
+///
+/// With n gear that have power and no short address they send at most 106 n + 258 frames each (`frames`). Gear keep
+/// their addresses (`keeps`). Once one ended with all-found, every gear with power has a short address (`found`). So
+/// it is after the last turn, if as many addresses of their blocks are vacant together as gear have power and no short
+/// address, and each begins with settled records (`enough`).
+///
+/// The table of the controller that ended last names each gear with power that has a short address and a number that
+/// gear draw (`named`). No two tables name one gear under two addresses, or two gear under one (`agree`).
+pub fn controllers_survey_in_turn()
+    ensures comes { (s : SiteState) (c : ℕ) (kept : Bool) → IsStill s → Allowed (world s) (Up c kept)
+        → BeginsAlone BySurvey (site_logged s (Up c kept)) c }
+    ensures rests { (b : Beginning) (s : SiteState) (c : ℕ) (es : List Event) (e : End) → BeginsAlone b s c
+        → Rounds (by_survey b) s c es → HasEnded (site_after s es) c e → IsStill (site_after s es) }
+    ensures still { (s : SiteState) (ts : List Turn) → IsStill s → TakeTurns s ts → IsStill (after_turns s ts) }
+    ensures frames { (s : SiteState) (ts : List Turn) → IsStill s → TakeTurns s ts
+        → turn_frames ts ≤ length ts * most_frames BySurvey (bare s) }
+    ensures keeps { (s : SiteState) (ts : List Turn) → IsStill s → TakeTurns s ts
+        → KeepsAddresses (world s) (world (after_turns s ts)) }
+    ensures found { (s : SiteState) (ts : List Turn) → IsStill s → TakeTurns s ts → HasFoundAll ts
+        → OfPowered (world (after_turns s ts)).gear HasShort }
+    ensures enough { (s : SiteState) (ts : List Turn) → IsStill s → TakeTurns s ts → AreSettled s ts
+        → HaveVacant s ts → OfPowered (world (after_turns s ts)).gear HasShort }
+    ensures named { (s : SiteState) (t : Turn) → IsStill s → TakesTurn s t
+        → AllAreNamed (table_at (left_by s t) t.controller) (world (left_by s t)).gear }
+    ensures agree { (s : SiteState) (ts : List Turn) → IsStill s → TakeTurns s ts
+        → TablesAgree (world (after_turns s ts)) }
 {}
 
 /// A CENSUS IS BOUNDED. Of every list of inputs that are due, from a survey on, whatever bus, store and other

@@ -276,4 +276,8 @@ impl Stores for &Cabinet {
         self.take(name);
         Ok(())
     }
+
+    fn sync(&mut self, _name: &str) -> Result<(), Failure> {
+        Ok(())
+    }
 }

@@ -159,4 +159,8 @@ impl Stores for &Shelf<'_> {
     fn remove(&mut self, _: Global, _: &str) -> Result<(), Failure> {
         Err(NONE)
     }
+
+    fn sync(&mut self, _: &str) -> Result<(), Failure> {
+        Err(NONE)
+    }
 }

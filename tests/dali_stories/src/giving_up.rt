@@ -4,7 +4,7 @@ use super::story::{all_parts_play, all_play};
 use std::test::Fail;
 
 /// Stories with their names.
-const STORIES: [(&str, &str); 3] = [
+const STORIES: [(&str, &str); 4] = [
     (
         "the eighth destroyed frame ends the commissioning",
         "site 1 0-3
@@ -53,6 +53,39 @@ const STORIES: [(&str, &str); 3] = [
          run 1000 > 0: commit enrol 0 123456
          > 0: done all-found
          > ran 110",
+    ),
+    (
+        // Controller 0 gives the gear that answered the last roll call of controller 1 its address. So three draws of
+        // controller 1 are in vain.
+        "a survey calls the roll once more before it gives up",
+        "site 5 0-3 4-7
+         draws 123456
+         used 1 36 3C7548
+         used 2 37 99F3DB
+         used 3 55 970AB6
+         used 4 19 498070
+         survey 0 > 0: put 3 01C2
+         survey 1 > 1: put 3 01C2
+         run 700 > 0: commit enrol 19 498070
+         > 1: commit enrol 19 498070
+         > 0: commit enrol 36 3C7548
+         > 0: commit enrol 37 99F3DB
+         > 1: commit enrol 36 3C7548
+         > 1: commit enrol 37 99F3DB
+         > 0: commit enrol 55 970AB6
+         > 1: commit enrol 55 970AB6
+         > 0: commit reserve 0 123456
+         > 0: commit enrol 0 123456
+         > 0: done all-found
+         > 1: done all-found
+         > ran 655
+         show > gear 0 on disabled 123456 FFFFFE 0
+         > gear 1 on disabled 3C7548 FFFFFF 36
+         > gear 2 on disabled 99F3DB FFFFFF 37
+         > gear 3 on disabled 970AB6 FFFFFF 55
+         > gear 4 on disabled 498070 FFFFFF 19
+         > table 0: 19=498070 36=3C7548 37=99F3DB 55=970AB6 0=123456
+         > table 1: 19=498070 36=3C7548 37=99F3DB 55=970AB6",
     ),
 ];
 

@@ -193,7 +193,7 @@ fn all_play<R: Abort>(rt: &R, stories: &[Surveyed<'_>]) -> Result<(), Fail> {
     Ok(())
 }
 
-const SURVEYS: [Surveyed<'static>; 9] = [
+const SURVEYS: [Surveyed<'static>; 10] = [
     (
         "silence is asked three times under each address",
         (0, 3),
@@ -237,7 +237,32 @@ const SURVEYS: [Surveyed<'static>; 9] = [
             &DREW_NOBODY,
             &DRAWN,
             &DREW_NOBODY,
+            &CALLED,
+            &NOBODY,
             &[(SILENCE, Put(3, 0xA100)), (SILENCE, Done(End::GaveUp))],
+        ],
+    ),
+    (
+        "after three draws no gear is left",
+        (0, 3),
+        &[],
+        &[],
+        &[],
+        192,
+        &[
+            &CALLED,
+            &NOBODY,
+            &DRAWN,
+            &DREW_NOBODY,
+            &DRAWN,
+            &DREW_NOBODY,
+            &DRAWN,
+            &DREW_NOBODY,
+            &CALLED,
+            &ONCE_MORE,
+            &CALLED,
+            &ONCE_MORE,
+            &ALL_FOUND,
         ],
     ),
     (

@@ -140,6 +140,13 @@ static int ready_table(struct course *it, struct arguments *arguments)
     return 1;
 }
 
+/* Once a run has ended, nothing is left to stop. */
+static int ready_stop(struct course *it, struct arguments *arguments)
+{
+    ready_go(it, arguments);
+    return it->order.kind == DALI_PUT || it->order.kind == DALI_COMMIT;
+}
+
 static int ready_progress(struct course *it, struct arguments *arguments)
 {
     *arguments = (struct arguments){{AT(it->machine), AT(it->progress)}};
@@ -263,7 +270,7 @@ static struct call calls[] = {
     CALL(dali_machine_records, ready_records),
     CALL(dali_machine_table, ready_table),
     CALL(dali_machine_progress, ready_progress),
-    CALL(dali_machine_stop, ready_go),
+    CALL(dali_machine_stop, ready_stop),
     CALL(dali_machine_new, ready_machine_new),
     CALL(dali_records_add, ready_records_add),
     CALL(dali_records_new, ready_records_new),
@@ -655,7 +662,14 @@ static void port_hears(uint32_t bits, uint32_t number, uint32_t from)
     }
 }
 
-/* A port sends frames, of which half are answered, each edge of the bus 15 us late; it reads frames of others; and edges are lost. */
+/* Edges so often that a capture unit may lose one. */
+static void port_noise(uint32_t from)
+{
+    for (uint32_t edge = 0; edge < 20; edge++)
+        port_edge(edge % 2 == 0, from + 10 * edge);
+}
+
+/* A port sends frames, of which half are answered and some are followed by noise, each edge of the bus 15 us late; it reads frames of others; and edges are lost. */
 static void measure_ports(void)
 {
     for (uint32_t frame = 0; frame < 128; frame++) {
@@ -670,10 +684,13 @@ static void measure_ports(void)
                 port_edge(course.event.is_low, course.now + 15);
             if (++halves == 41 && frame % 2 == 0)
                 port_hears(9, 0x100 + frame, course.now + 5000);
+            else if (halves == 41 && frame % 8 == 1)
+                port_noise(course.now + 5000);
         }
         port_hears(17, 0x10000 + course.number, course.now + 9000);
         course.now = course.event.at;
         measure_from(AT_PORTS + 2, AT_PORTS + 3);
+        port_noise(course.now + 1000);
         course.is_low = frame % 2;
         measure_from(AT_PORTS + 4, AT_PORTS + 5);
     }
@@ -798,7 +815,7 @@ int main(void)
 {
     start_counting();
     check_counting();
-    for (uint32_t *word = stacks[0]; word < stacks[CALLS]; word++)
+    for (uint32_t *word = stacks[0]; word < stacks[0] + CALLS * STACK_WORDS; word++)
         *word = PAINT;
     measure_pins();
     measure_ports();

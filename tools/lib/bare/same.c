@@ -14,6 +14,8 @@
 
 /* More than a life takes that is not killed. */
 #define MOST_STEPS UINT32_C(40000)
+/* And that one takes that is ended early. */
+#define MOST_STOPPING UINT32_C(4000)
 #define MOST_LIVES 6
 #define MOST_CONTROLLERS 2
 /* Each of so many steps is followed by the calls that only read, and by some on structs with a changed byte. */
@@ -35,17 +37,20 @@ static union {
         struct dali_heard heard;
         struct dali_levels levels;
         struct dali_passes passes;
+        struct dali_progress progress;
         uint8_t due, next;
+        struct dali_event event;
     } is;
     uint32_t words[900];
 } all;
 
+static struct dali_port port;
 static struct bus bus;
 static uint64_t chance;
 static uint32_t sum = UINT32_C(0x811C9DC5);
-static uint32_t calls, frames, lives, commits[DALI_RELEASE + 1];
-/* Of each status, purpose of a transaction, end, fault and thing to be done next whether it came: a bit each. */
-static uint32_t statuses, purposes, ends, faults, nexts;
+static uint32_t calls, frames, lives, stopped, commits[DALI_RELEASE + 1];
+/* Of each status, purpose of a transaction, end, fault, thing to be done next and word of a port whether it came: a bit each. */
+static uint32_t statuses, purposes, ends, faults, nexts, words_told;
 
 static void mix(uint32_t word)
 {
@@ -177,13 +182,17 @@ static void read_beside(void)
     must(called(dali_machine_last(&all.is.beside, &all.is.other)) == status, "the last order is read otherwise");
     must(called(dali_machine_records(&all.is.beside, &all.is.read)) == status, "records are read otherwise");
     must(called(dali_machine_table(&all.is.beside, &all.is.table)) == status, "a table is read otherwise");
+    must(called(dali_machine_progress(&all.is.beside, &all.is.progress)) == status, "progress is read otherwise");
 }
 
 static void step_beside(void)
 {
     uint8_t input = (uint8_t)chance_below(&chance, DALI_SURVEY + 3);
 
-    called(dali_machine_step(&all.is.beside, input, some_byte(), &all.is.other));
+    if (chance_below(&chance, 2))
+        called(dali_machine_step(&all.is.beside, input, some_byte(), &all.is.other));
+    else
+        called(dali_machine_stop(&all.is.beside, input, some_byte(), &all.is.other));
 }
 
 static void try_beside(void)
@@ -229,8 +238,23 @@ static struct told follow(struct dali_records *kept, uint32_t failing)
     return (struct told){DALI_COMMITTED, 0};
 }
 
-/* One life of a controller, which is killed after so many steps. 1 where it has ended before. Of so many records one is
- * not kept, or none fails. */
+/* A run is ended early. */
+static void stop(struct dali_records *kept, struct told told)
+{
+    uint32_t count = 0;
+
+    for (uint8_t kind = DALI_NOTHING_ORDERED; kind != DALI_DONE && kind != DALI_HALT; count++) {
+        must(called(dali_machine_stop(&all.is.machine, told.input, told.byte, &all.is.order)) == DALI_OK, "a stop is refused");
+        must(count < MOST_STOPPING, "a stop does not end");
+        kind = all.is.order.kind;
+        if (kind == DALI_PUT || kind == DALI_COMMIT)
+            told = follow(kept, 0);
+    }
+    stopped++;
+}
+
+/* One life of a controller, which is killed after so many steps, or ended early. 1 where it has ended before. Of so many
+ * records one is not kept, or none fails. */
 static int live(struct dali_records *kept, uint8_t start, uint32_t steps, uint32_t failing)
 {
     struct told told = {start, 0};
@@ -247,6 +271,8 @@ static int live(struct dali_records *kept, uint8_t start, uint32_t steps, uint32
             told = follow(kept, failing);
         mix(told.input << 8 | told.byte);
     }
+    if (kind != DALI_DONE && kind != DALI_HALT && chance_below(&chance, 2))
+        stop(kept, told);
     ends |= kind == DALI_DONE ? UINT32_C(1) << all.is.order.reason : 0;
     faults |= kind == DALI_HALT ? UINT32_C(1) << all.is.order.reason : 0;
     return kind == DALI_DONE || kind == DALI_HALT;
@@ -372,6 +398,79 @@ static void try_passes(void)
     }
 }
 
+/* A port may have gaps, so what is compared is what its calls answer, and tell. */
+static void port_called(uint8_t status)
+{
+    calls++;
+    mix(status);
+    mix(all.is.event.at);
+    mix((uint32_t)all.is.event.is_low << 24 | (uint32_t)all.is.event.next << 16 | (uint32_t)all.is.event.input << 8 | all.is.event.byte);
+    mix(all.is.event.read.kind);
+    for (int at = 0; at < 3; at++)
+        mix(all.is.event.read.bytes[at]);
+    for (int at = 0; at < 4; at++)
+        mix(all.is.event.read.lasted[at]);
+    words_told |= UINT32_C(1) << (all.is.event.input & 31);
+}
+
+static void send_by_port(uint32_t now)
+{
+    struct dali_order order = {DALI_PUT, DALI_FIRST_PRIORITY, some_byte(), some_byte(), some_byte() & 1, DALI_WHOLE, {0, {0, {0, 0, 0}}}, 0};
+
+    if (chance_below(&chance, 8) == 0)
+        change_byte(&order, sizeof order);
+    port_called(dali_port_send(&port, &order, chance_below(&chance, 1300), now, &all.is.event));
+}
+
+/* The edges of a backward frame that begins at this time, often with wrong bit times, and when it is over. */
+static uint32_t answer_port(uint32_t from)
+{
+    uint32_t number = UINT32_C(0x100) | some_byte(), micros = chance_below(&chance, 4) ? 417 : 560;
+    uint8_t was_low = 0;
+
+    for (uint32_t half = 0; half <= 18; half++) {
+        uint8_t is_low = half < 18 && (number >> (8 - half / 2) & 1) != half % 2;
+
+        if (is_low != was_low)
+            port_called(dali_port_edge(&port, is_low, from + micros * half, &all.is.event));
+        was_low = is_low;
+    }
+    return from + micros * 18;
+}
+
+/* A port on a bus that follows it 15 us later, with edges of others, edges that are lost, and frames to send. */
+static void try_port(void)
+{
+    uint32_t now = (uint32_t)chance_next(&chance);
+
+    memset(&all.is.event, 0, sizeof all.is.event);
+    port_called(dali_port_new(&port, (uint8_t)chance_below(&chance, 2), now, &all.is.event));
+    for (int times = 0; times < 400; times++) {
+        uint8_t was_low = all.is.event.is_low;
+        uint32_t what = chance_below(&chance, 256), rest = all.is.event.at - now;
+
+        if (rest > 9000 && rest < 20000 && chance_below(&chance, 3) == 0) {
+            now = answer_port(now + 5000);
+            continue;
+        }
+        now = what < 236 ? all.is.event.at : now + chance_below(&chance, 1000);
+        if (what < 236)
+            port_called(dali_port_timer(&port, now, &all.is.event));
+        else if (what < 238)
+            port_called(dali_port_edge(&port, (uint8_t)chance_below(&chance, 2), now, &all.is.event));
+        else if (what < 255)
+            send_by_port(now);
+        else
+            port_called(dali_port_lost(&port, (uint8_t)chance_below(&chance, 3), now, &all.is.event));
+        if (all.is.event.is_low != was_low) {
+            now += 15;
+            port_called(dali_port_edge(&port, all.is.event.is_low, now, &all.is.event));
+        }
+        if (chance_below(&chance, 200) == 0)
+            change_byte(&port, sizeof port);
+    }
+}
+
 static void try_levels(void)
 {
     struct levels_seen seen;
@@ -383,6 +482,8 @@ static void try_levels(void)
     for (uint32_t times = 0; times < LEVELS; times++) {
         try_pins();
         try_passes();
+        if (times % 20 == 0)
+            try_port();
     }
     tell("pins", sum);
 }
@@ -404,6 +505,7 @@ int main(void)
     tell("calls", calls);
     tell("frames", frames);
     tell("lives", lives);
+    tell("stopped", stopped);
     tell("reservations", commits[DALI_RESERVE]);
     tell("enrolments", commits[DALI_ENROL]);
     tell("releases", commits[DALI_RELEASE]);
@@ -412,6 +514,7 @@ int main(void)
     tell("ends", ends);
     tell("faults", faults);
     tell("nexts", nexts);
+    tell("words", words_told);
 #ifdef REACHED
     {
         extern const uint8_t reached[REACHED];

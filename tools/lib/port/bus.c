@@ -836,8 +836,10 @@ int main(int count, char **words)
             if (trace)
                 fprintf(trace, "$timescale 1 us $end\n$var wire 1 ! bus $end\n$enddefinitions $end\n#0\n1!\n");
             try_site(seed + trial);
-            if (trace)
+            if (trace) {
+                fprintf(trace, "#%llu\n", (unsigned long long)now + 100000);
                 fclose(trace);
+            }
         }
     } else {
         for (trial = 0; frames_told < many; trial++)

@@ -162,7 +162,8 @@ undrawn_moves : (t : Machine) (d : Course) → d.way ≡ Surveying → d.tally.a
     → Moves t.course (undrawn t d)
 undrawn_moves t d way askings from =
     either (Moves t.course) (has_open t) (either (Moves t.course) (nat_lt d.tally.draws 3) (quiet way askings from (λ u n s. refl))
-    (quiet way askings from (λ u n s. refl))) (full_moves t d way askings from)
+    (either (Moves t.course) d.tally.is_heard (quiet way askings from (λ u n s. refl)) (quiet way askings from (λ u n s. refl))))
+    (full_moves t d way askings from)
 
 -- a question of a search, of a hunt or of a roll call was answered
 probed_moves : (t : Machine) (h : Answer) → t.course.way ≡ Surveying → Moves t.course (probed t.course h)

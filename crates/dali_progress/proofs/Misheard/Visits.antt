@@ -93,7 +93,15 @@ record IsOver (g : ℕ) (t : Machine) (gs : List Gear) : Type 0 where
   known : AreSeen t.kept t.heard gs
   nobody : NobodyLeft gs
 
--- no gear was found: those that never drew do, or no address is open
+-- the roll is called
+found_over : (g : ℕ) (t : Machine) (o : Order) (h : Answer) (r : SearchAddress) (room : ℕ) (gs : List Gear) → o ≡ question (next_course t) r room
+    → next_course t ≡ calling (hunted t.course h) → IsOver g t gs → GoesTo g t o gs
+found_over g t o h r room gs asks next v =
+    first_by g t o (calling (hunted t.course h)) gs v.stands.calm (begins_by t o (calling (hunted t.course h)) r room asks next refl) next
+    v.stands.calm.way (record { opened_is = v.opened_is; counted = v.counted; roll = roll_first gs })
+    (v.known, inl (λ passed drew. served_by g t.course.ascent.found gs v.sought_are (v.counted.drawn drew) v.nobody))
+
+-- no gear was found: those that never drew do, or may no more, or no address is open
 vain_over : (g : ℕ) (t : Machine) (o : Order) (h : Answer) (r : SearchAddress) (room : ℕ) (gs : List Gear) → o ≡ question (next_course t) r room
     → next_course t ≡ undrawn t (hunted t.course h) → t.course.ascent.found ≡ 0 → IsOver g t gs → GoesTo g t o gs
 vain_over g t o h r room gs asks next none v = go (has_open t) refl (nat_lt t.course.tally.draws 3) refl where
@@ -114,19 +122,25 @@ vain_over g t o h r room gs asks next none v = go (has_open t) refl (nat_lt t.co
           low = v.low;
         };
       }) v.known
-  go true free false spent =
-      first_by g t o (closing_by (hunted t.course h) GaveUp) gs calm
-      (begins_by t o (closing_by (hunted t.course h) GaveUp) r room asks (vain_next t h true false next free spent) refl)
-      (vain_next t h true false next free spent) v.stands.calm.way
-      (record {
-        stage_is = tt;
-        well = inl (served_by g t.course.ascent.found gs v.sought_are
-            (v.counted.drawn (some t.course.tally.draws spent)) v.nobody);
-      })
-      v.known
-    where
-      some : (n : ℕ) → nat_lt n 3 ≡ false → 0 < n
-      some n e = grind (arith, nat_tests, e)
+  go true free false spent = by t.course.tally.is_heard refl where
+    after : (b : Bool) → t.course.tally.is_heard ≡ b
+        → next_course t ≡ (if b then closing_by (hunted t.course h) GaveUp else calling (hunted t.course h))
+    after b e = vain_next t h true false next free spent ∙ ap (λ q. if q then closing_by (hunted t.course h) GaveUp else calling (hunted t.course h)) e
+
+    some : (n : ℕ) → nat_lt n 3 ≡ false → 0 < n
+    some n e = grind (arith, nat_tests, e)
+
+    by : (b : Bool) → t.course.tally.is_heard ≡ b → GoesTo g t o gs
+    by true heard =
+        first_by g t o (closing_by (hunted t.course h) GaveUp) gs calm
+        (begins_by t o (closing_by (hunted t.course h) GaveUp) r room asks (after true heard) refl) (after true heard) v.stands.calm.way
+        (record {
+          stage_is = tt;
+          well = inl (served_by g t.course.ascent.found gs v.sought_are
+              (v.counted.drawn (some t.course.tally.draws spent)) v.nobody);
+        })
+        v.known
+    by false unheard = found_over g t o h r room gs asks (after false unheard) v
   go false shut b few =
       fills g t o (hunted t.course h) gs calm (begins_full (vain_next t h false b next shut few))
       (vain_next t h false b next shut few) v.stands.calm.way v.counted
@@ -134,14 +148,6 @@ vain_over g t o h r room gs asks next none v = go (has_open t) refl (nat_lt t.co
     where
       begins_full : next_course t ≡ full t (hunted t.course h) → o ≡ beginning (next_course t)
       begins_full same = begins_by t o (full t (hunted t.course h)) r room asks same (full_rests t (hunted t.course h))
-
--- some gear was: the roll is called
-found_over : (g : ℕ) (t : Machine) (o : Order) (h : Answer) (r : SearchAddress) (room : ℕ) (gs : List Gear) → o ≡ question (next_course t) r room
-    → next_course t ≡ calling (hunted t.course h) → IsOver g t gs → GoesTo g t o gs
-found_over g t o h r room gs asks next v =
-    first_by g t o (calling (hunted t.course h)) gs v.stands.calm (begins_by t o (calling (hunted t.course h)) r room asks next refl) next
-    v.stands.calm.way (record { opened_is = v.opened_is; counted = v.counted; roll = roll_first gs })
-    (v.known, inl (λ passed drew. served_by g t.course.ascent.found gs v.sought_are (v.counted.drawn drew) v.nobody))
 
 hunt_over : (g : ℕ) (t : Machine) (o : Order) (h : Answer) (r : SearchAddress) (room : ℕ) (gs : List Gear) → o ≡ question (next_course t) r room
     → next_course t ≡ nobody_left t (hunted t.course h) → IsOver g t gs → GoesTo g t o gs

@@ -1,10 +1,10 @@
 use Rattle.dali_progress.proofs.Below.{◌≡◌, ℕ, ◌+◌, ◌*◌, ◌<◌, ◌≤◌, inl, inr, Bool, true, false, zero, suc, List, refl, sym, ap, subst, ◌∙◌, arith, Option, Some}
 use Rattle.dali_progress.proofs.Below.{None, ◌==◌, ◌&&◌, nat_lt, if◌then◌else◌, is_some, nat_tests, count_by, LATER, MASK24, Answer, Forward, SearchAddress}
-use Rattle.dali_progress.proofs.Below.{frame_of, Command, Gear, stage_of, BlockFull, GaveUp, Order, Put, Stage, Ascent, asked_next, ascended, leads_to}
+use Rattle.dali_progress.proofs.Below.{frame_of, Command, Gear, stage_of, BlockFull, Order, Put, Stage, Ascent, asked_next, ascended, leads_to}
 use Rattle.dali_progress.proofs.Below.{asking_next, room_left, Again, Found, Nobody, Course, is_yes, least_open, sought, byte_to_send, next_unfinished}
 use Rattle.dali_progress.proofs.Below.{searching_first, asking_again, turn_of, bytes_to_send, hunting, hunted, visiting, calling, drawing}
 use Rattle.dali_progress.proofs.Below.{closing as closing_by, Machine, next_course, begins_at, beginning, has_open, hunted_to, is_hunting, question, asks_again}
-use Rattle.dali_progress.proofs.Below.{full, undrawn, nobody_left, compared_in, asked_on, course_on, machine_ordered, asked_by, Hunting, IsGivenBy}
+use Rattle.dali_progress.proofs.Below.{full, giving_up, undrawn, nobody_left, compared_in, asked_on, course_on, machine_ordered, asked_by, Hunting, IsGivenBy}
 use Rattle.dali_progress.proofs.Below.{IsNoEnrolment, HasShort, IsOpened, NoneNamed, gear_of, is_wanted, is_bare, OfPowered, AreTabled, IsSettled}
 use Rattle.dali_search.specs.Questions.{Asking}
 use Rattle.dali_search.specs.declared.step.Step.{Step}
@@ -118,10 +118,10 @@ record IsOver (start : Begun) (t : Machine) (h : Answer) (gs : List Gear) (left 
 
 -- what follows if no gear was found
 pub vain_next : (t : Machine) (h : Answer) (a b : Bool) → next_course t ≡ undrawn t (hunted t.course h) → has_open t ≡ a → nat_lt t.course.tally.draws 3 ≡ b
-    → next_course t ≡ (if a then (if b then drawing (hunted t.course h) else closing_by (hunted t.course h) GaveUp) else full t (hunted t.course h))
+    → next_course t ≡ (if a then (if b then drawing (hunted t.course h) else giving_up (hunted t.course h)) else full t (hunted t.course h))
 vain_next t h a b next free few =
-    next ∙ ap (λ q. if q then (if nat_lt t.course.tally.draws 3 then drawing (hunted t.course h) else closing_by (hunted t.course h) GaveUp)
-    else full t (hunted t.course h)) free ∙ ap (λ q. if a then (if q then drawing (hunted t.course h) else closing_by (hunted t.course h) GaveUp) else full t
+    next ∙ ap (λ q. if q then (if nat_lt t.course.tally.draws 3 then drawing (hunted t.course h) else giving_up (hunted t.course h))
+    else full t (hunted t.course h)) free ∙ ap (λ q. if a then (if q then drawing (hunted t.course h) else giving_up (hunted t.course h)) else full t
     (hunted t.course h)) few
 
 -- no gear was found: those that never drew do, or no address is open

@@ -264,7 +264,7 @@ all_counted (x ∷ xs) gs once held =
 -- ---------------------------------------------------------------- who is left
 
 -- the gear that has an address that was vacant had none before, so fewer are left
-fewer_left : (b : Block) (gs hs : List Gear) (xs : List ℕ) → Gives b gs hs → IsOnce xs
+pub fewer_left : (b : Block) (gs hs : List Gear) (xs : List ℕ) → Gives b gs hs → IsOnce xs
     → ((a : ℕ) → Has xs a → (k : ℕ) → k < length gs → (gear_of gs k).short ≡ Some a → ⊥) → ((a : ℕ) → Has xs a → IsHeld hs a)
     → count_by is_bare hs + length xs ≤ count_by is_bare gs
 fewer_left b gs hs xs gives once vacant held =
@@ -298,11 +298,11 @@ taken_held m gs a small settled entries marks (inr (inl enrolled)) =
     subst (IsHeld gs) x.2 (entries x.0.0 x.0.1 x.1)
 taken_held m gs a small settled entries marks (inr (inr mark)) = marks a small mark
 
-ended_so : (e : End) (k : Kept) (heard : Shorts) (gs : List Gear) → SurveyEnds e k heard gs → (0 < count_by is_bare gs → AreTaken k heard → ⊥)
-    → (e ≡ AllFound) × OfPowered gs HasShort
-ended_so AllFound k heard gs well never = (refl, well)
-ended_so GaveUp k heard gs well never = absurd well
-ended_so BlockFull k heard gs (some, taken) never = absurd (never some taken)
+ended_so : (e : End) (k : Kept) (heard : Shorts) (gs : List Gear) → SurveyEnds e k heard gs
+    → ((e ≡ AllFound) × OfPowered gs HasShort) ⊎ ((0 < count_by is_bare gs) × AreTaken k heard)
+ended_so AllFound k heard gs well = inl (refl, well)
+ended_so GaveUp k heard gs well = absurd well
+ended_so BlockFull k heard gs well = inr well
 
 -- ---------------------------------------------------------------- its end
 
@@ -325,39 +325,57 @@ over s c es e alone rounds ended =
     }
 
 -- the plan stays
-planned : (P : Plan → Type 0) (es : List Event) (s : SiteState) → P s.plan → P (site_after s es).plan
+pub planned : (P : Plan → Type 0) (es : List Event) (s : SiteState) → P s.plan → P (site_after s es).plan
 planned P [] s has = has
 planned P (e ∷ es) s has = planned P es (site_logged s e) has
+
+-- it ends with all-found, or gear have each address of the block and some gear is left
+pub full_held : (s : SiteState) (c : ℕ) (es : List Event) (e : End) → IsAlone s c → IsSettledAt s c → Rounds true s c es → HasEnded (site_after s es) c e
+    → ((e ≡ AllFound) × OfPowered (world (site_after s es)).gear HasShort)
+    ⊎ ((0 < count_by is_bare (world (site_after s es)).gear)
+    × ((a : ℕ) → InBlock (block_at s.plan c) a → IsHeld (world (site_after s es)).gear a))
+full_held s c es e alone settled rounds ended =
+    elim (ended_so e now.by.machine.kept now.by.machine.heard hs now.by.well) [
+      | inl all ↦ inl all
+      | inr full ↦ inr (
+        full.0,
+        λ a has. taken_held now.by.machine hs a (block_now t c now.by.run now.by.up a (within a has)) (now.by.settled settled) entries
+            now.marks (full.1 a (subst (λ (k : Kept). InBlock k.block a) (sym now.by.kept) (within a has))),
+      )
+    ]
+  where
+    t : SiteState
+    t = site_after s es
+
+    hs : List Gear
+    hs = (world t).gear
+
+    now : IsOver s c es e
+    now = over s c es e alone rounds ended
+
+    within : (a : ℕ) → InBlock (block_at s.plan c) a → InBlock (controller_at (world t) c).records.block a
+    within a has =
+        subst (λ b. InBlock b a) (sym ((records_now t.plan t.queue t.log now.by.run).block c now.by.up.known))
+        (planned (λ p. InBlock (block_at p c) a) es s has)
+
+    entries : (b r : ℕ) → Has now.by.machine.kept.enrolled (b, r) → IsHeld hs b
+    entries b r has =
+        let at = true_now t c now.by.run now.by.up b r (subst (λ (k : Kept). Has k.enrolled (b, r)) now.by.kept has) in (at.0, at.1, at.2)
 
 -- WITH ADDRESSES ENOUGH all gear get one
 pub enough_found : (s : SiteState) (c : ℕ) (es : List Event) (e : End) → IsAlone s c → IsSettledAt s c → HasVacant s c → Rounds true s c es
     → HasEnded (site_after s es) c e → (e ≡ AllFound) × OfPowered (world (site_after s es)).gear HasShort
-enough_found s c es e alone settled vacant rounds ended = ended_so e now.by.machine.kept now.by.machine.heard hs now.by.well never where
-  t : SiteState
-  t = site_after s es
+enough_found s c es e alone settled vacant rounds ended =
+    elim (full_held s c es e alone settled rounds ended) [ inl all ↦ all | inr full ↦ absurd (never full.0 full.1) ] where
+      hs : List Gear
+      hs = (world (site_after s es)).gear
 
-  hs : List Gear
-  hs = (world t).gear
-
-  now : IsOver s c es e
-  now = over s c es e alone rounds ended
-
-  within : (a : ℕ) → Has vacant.addresses a → InBlock (controller_at (world t) c).records.block a
-  within a has =
-      subst (λ b. InBlock b a) (sym ((records_now t.plan t.queue t.log now.by.run).block c now.by.up.known))
-      (planned (λ p. InBlock (block_at p c) a) es s (vacant.within a has))
-
-  entries : (b r : ℕ) → Has now.by.machine.kept.enrolled (b, r) → IsHeld hs b
-  entries b r has =
-      let at = true_now t c now.by.run now.by.up b r (subst (λ (k : Kept). Has k.enrolled (b, r)) now.by.kept has) in (at.0, at.1, at.2)
-
-  never : 0 < count_by is_bare hs → AreTaken now.by.machine.kept now.by.machine.heard → ⊥
-  never some taken =
-      let fewer =
-      fewer_left (block_at s.plan c) (world s).gear hs vacant.addresses now.gives vacant.once (λ a has k there short. vacant.vacant a has k (there, short))
-      (λ a has. taken_held now.by.machine hs a (block_now t c now.by.run now.by.up a (within a has)) (now.by.settled settled) entries now.marks
-      (taken a (subst (λ (k : Kept). InBlock k.block a) (sym now.by.kept) (within a has)))) in
-      none (count_by is_bare hs) (length vacant.addresses) (bare s) some fewer vacant.enough
-    where
-      none : (left n was : ℕ) → 0 < left → left + n ≤ was → was ≤ n → ⊥
-      none left n was some fewer enough = omega (arith, some, fewer, enough)
+      never : 0 < count_by is_bare hs → ((a : ℕ) → InBlock (block_at s.plan c) a → IsHeld hs a) → ⊥
+      never some held =
+          let fewer =
+          fewer_left (block_at s.plan c) (world s).gear hs vacant.addresses (over s c es e alone rounds ended).gives vacant.once
+          (λ a has k there short. vacant.vacant a has k (there, short)) (λ a has. held a (vacant.within a has)) in
+          none (count_by is_bare hs) (length vacant.addresses) (bare s) some fewer vacant.enough
+        where
+          none : (left n was : ℕ) → 0 < left → left + n ≤ was → was ≤ n → ⊥
+          none left n was some fewer enough = omega (arith, some, fewer, enough)

@@ -130,5 +130,5 @@ pub fn told<R: Abort>(rt: &R, audit: &Audit, wanted: &[Kind]) {
     for (finding, kind) in audit.findings.iter().zip(wanted) {
         assert_eq!(rt; finding.kind, *kind);
     }
-    assert_eq!(rt; KINDS.len(), 21);
+    assert_eq!(rt; KINDS.len(), 22);
 }

@@ -135,12 +135,59 @@ fn several_gear_get_one_address(rt: HostRuntime) -> Result<(), Fail> {
     capture.search(0x123455)?;
     capture.tell(Command::Compare)?;
     capture.search(0x123456)?;
-    capture.program(0)?;
+    capture.tell(Command::Program(Some(short(0)?)))?;
+    capture.ask_several(Command::QueryShort)?;
     told(
         &rt,
         &capture.closed(rt.alloc())?,
-        &[Kind::SeveralProgrammed],
+        &[Kind::DamagedAnswer, Kind::SeveralProgrammed],
     );
+    Ok(())
+}
+
+#[test]
+fn one_damaged_answer_is_not_that_of_several_gear(rt: HostRuntime) -> Result<(), Fail> {
+    let mut capture = Capture::new(rt.alloc());
+    capture.open()?;
+    capture.search(0x123456)?;
+    capture.ask_several(Command::Compare)?;
+    capture.program(0)?;
+    capture.search(0x9ABCDE)?;
+    capture.ask(Command::Compare, 0xFF)?;
+    capture.tell(Command::Program(Some(short(1)?)))?;
+    capture.ask_several(Command::QueryShort)?;
+    told(&rt, &capture.closed(rt.alloc())?, &[Kind::DamagedAnswer]);
+    Ok(())
+}
+
+/// A controller has found gear and searches on, when another one sends TERMINATE.
+fn cut_off(capture: &mut Capture) -> Result<(), Fail> {
+    capture.open()?;
+    capture.give(0x123456, 0)?;
+    capture.search(0xFFFFFF)?;
+    capture.ask(Command::Compare, 0xFF)?;
+    capture.tell(Command::Terminate)?;
+    capture.search(0x7FFFFF)?;
+    capture.tell(Command::Compare)?;
+    capture.search(0xFFFFFF)?;
+    capture.tell(Command::Compare)
+}
+
+#[test]
+fn another_controller_ends_a_search(rt: HostRuntime) -> Result<(), Fail> {
+    let mut capture = Capture::new(rt.alloc());
+    cut_off(&mut capture)?;
+    told(&rt, &capture.closed(rt.alloc())?, &[Kind::CutOff]);
+    Ok(())
+}
+
+#[test]
+fn gear_are_searched_anew_after_another_controller_ended_a_search(rt: HostRuntime) -> Result<(), Fail> {
+    let mut capture = Capture::new(rt.alloc());
+    cut_off(&mut capture)?;
+    capture.open()?;
+    capture.give(0x9ABCDE, 1)?;
+    told(&rt, &capture.closed(rt.alloc())?, &[]);
     Ok(())
 }
 

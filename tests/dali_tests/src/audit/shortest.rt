@@ -50,16 +50,21 @@ fn tells<R: Abort + AllocGlobal>(rt: &R, words: &str, wanted: Option<Kind>) -> R
     let audit = capture.audit(rt.alloc())?;
     let told = match audit.findings.as_slice() {
         [] => None,
-        [first, ..] => Some(first.kind),
+        // Several gear that were programmed answer the query together.
+        [first, second] if first.kind == Kind::DamagedAnswer && second.kind == Kind::SeveralProgrammed => {
+            Some(second.kind)
+        }
+        [only] => Some(only.kind),
+        _ => Some(Kind::DamagedFrame),
     };
-    if told != wanted || audit.findings.len() > 1 {
+    if told != wanted {
         assert_eq!(rt; words, "");
     }
     Ok(())
 }
 
 /// A finding, a capture that has it alone, and one that has none.
-const ROWS: [(Kind, &str, &str); 21] = [
+const ROWS: [(Kind, &str, &str); 22] = [
     (Kind::DamagedFrame, "A100 --", "A100 A100"),
     (Kind::DamagedAnswer, "BB00 <--", "A900 <--"),
     (Kind::UnaskedAnswer, "A100 <FF", "A900 <FF"),
@@ -89,8 +94,8 @@ const ROWS: [(Kind, &str, &str); 21] = [
     ),
     (
         Kind::SeveralProgrammed,
-        "B112 B334 B556 A900 <-- B701",
-        "B112 B334 B556 A900 <FF B701",
+        "B112 B334 B556 A900 <-- B701 BB00 <--",
+        "B112 B334 B556 A900 <-- B701 BB00 <01",
     ),
     (
         Kind::AddressTaken,
@@ -120,6 +125,7 @@ const ROWS: [(Kind, &str, &str); 21] = [
     (Kind::NotAnAddress, "B700", "B7FF BB00"),
     (Kind::ResetOfAll, "FF20", "0320"),
     (Kind::SetForAll, "A301 FF80", "A3FF FF80"),
+    (Kind::CutOff, "A100 A900", "A100 A900 A5FF A5FF A100"),
     (Kind::NotTerminated, "A5FF A5FF", "A5FF A5FF A100"),
 ];
 

@@ -42,15 +42,15 @@ pub returns-clause-replace : goal.returns-clause-replace
 returns-clause-replace g c wanted records others was now x y (random, replaces) nothing = (
   random,
   replaced g.F.Open.Keep.is_up g.F.Open.Keep.is_sound g.F.Open.Keep.holds g.F.Open.Keep.kept g.F.Open.Keep.block g.F.Stores.made g.F.Stores.saw
-      g.F.Stores.opens g.R.Read.remaining g.W.Write.contents (g.S.Voice.told c.args._system.now) wanted records random was now x.driver
-      y.driver replaces nothing,
+      g.F.Stores.opens g.R.Read.remaining g.W.Write.contents (g.S.Voice.told c.args._system.now) wanted records random was now x
+      y replaces nothing,
 )
 
 pub returns-clause-accept : goal.returns-clause-accept
 returns-clause-accept g c wanted records others was now x y (random, accepts) =
     more_is_not_nothing _ _
     (accepted g.F.Open.Keep.kept g.F.Open.Keep.block g.F.Stores.made g.F.Stores.saw g.F.Stores.opens g.R.Read.remaining g.W.Write.contents
-    (g.S.Voice.told c.args._system.now) wanted records random was now x.driver y.driver accepts)
+    (g.S.Voice.told c.args._system.now) wanted records random was now x y accepts)
 
 pub returns-clause-refused : goal.returns-clause-refused
 returns-clause-refused g c = refused_puts

@@ -1,4 +1,4 @@
-use Rattle.std.proofs.Common.{◌≡◌, false, sym, ◌∙◌}
+use Rattle.std.proofs.Common.{sym, ◌∙◌}
 use Rattle.dali_port.proofs.Levels.{within_bits, beyond_bits, first_half, second_half}
 use Rattle.dali_port.proofs.frames.level.Goals as goal
 

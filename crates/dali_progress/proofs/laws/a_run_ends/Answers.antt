@@ -2,4 +2,4 @@ use Rattle.dali_progress.proofs.{Ended.run_frames, Ended.run_ends, Refused.run_w
 use Rattle.dali_progress.proofs.laws.a_run_ends.Goals as goal
 
 pub returns : goal.returns
-returns c = record { frames = run_frames; ends = run_ends; room = run_with_room; new = new_runs }
+returns c = record { frames = λ b d. run_frames d b; ends = λ b d. run_ends d b; room = λ b d. run_with_room d b; new = new_runs }

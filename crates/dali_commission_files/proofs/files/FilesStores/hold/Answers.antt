@@ -1,7 +1,7 @@
 use Rattle.std.proofs.Common.{inl, inr, sym, subst}
 use Rattle.dali_commission_files.specs.declared.files.Files.{Files}
 use Rattle.dali_commission_files.specs.Folders.{HasSeen}
-use Rattle.dali_commission_files.proofs.Told.{not_ok, more, not_both, read_held}
+use Rattle.dali_commission_files.proofs.Told.{held_badly, not_closed, then_done, not_both, read_held}
 use Rattle.dali_commission_files.proofs.files.FilesStores.hold.Goals.{in-Ok, in-Err}
 use Rattle.dali_commission_files.proofs.files.FilesStores.hold.Goals as goal
 
@@ -17,7 +17,8 @@ returns-in_err-due g c = elim (c.match-open_all.branch) [
     w.take-due.result,
     subst (λ b. g.H.Holder.dues c.args.holder w.deref.result.now c.args.self.now w.take-due.new.stores c.args.beside.now b w.take-due.result)
         (sym w.beside-is) w.take-due.ensures,
-    not_ok c.from_residual.result _ c.from_residual.ensures.0,
+    held_badly g.H.Holder.ends w.take-due.new.stores c.match-open_all.self w.take-due.result c.match-open_all.due _ c.from_residual.result
+        c.from_residual.ensures.0 c.from_residual.ensures.1 c.in_err-due.was w.due-is w.self-is,
   )
   | in-Err w ↦ inl (c.from_residual.ensures.0, w.self-is, w.beside-is)
 ]
@@ -34,7 +35,8 @@ returns-in_err-_files g c = elim (c.match-open_all.branch) [
     w.take-due.result,
     subst (λ b. g.H.Holder.dues c.args.holder w.deref.result.now c.args.self.now w.take-due.new.stores c.args.beside.now b w.take-due.result)
         (sym w.beside-is) w.take-due.ensures,
-    not_ok c.from_residual-in_err-_files.result _ c.from_residual-in_err-_files.ensures.0,
+    not_closed g.H.Holder.ends w.take-due.new.stores c.match-open_all.self w.take-due.result c.match-open_all.due c.in_ok-due.due
+        c.from_residual-in_err-_files.result c.from_residual-in_err-_files.ensures.0 c.in_ok-due.was w.due-is w.self-is,
   )
   | in-Err w ↦ inl (c.from_residual-in_err-_files.ensures.0, w.self-is, w.beside-is)
 ]
@@ -54,7 +56,8 @@ returns g c = elim (c.match-open_all.branch) [
             (subst (λ s. g.H.Holder.dues c.args.holder all c.args.self.now s c.args.beside.now w.take-due.new.beside c.match-open_all.due) (sym w.self-is)
             (subst (λ d. g.H.Holder.dues c.args.holder all c.args.self.now w.take-due.new.stores c.args.beside.now w.take-due.new.beside d) (sym w.due-is)
             w.take-due.ensures)),
-        more c.then.result _ _ (λ out so. (c.match-open_all.holder, c.in_ok-due.due, c.in_ok-due.was, so)) c.then.ensures,
+        then_done g.H.Holder.ends c.match-open_all.self c.then.new.stores c.match-open_all.due c.match-open_all.holder c.in_ok-due.due c.then.result
+            c.in_ok-due.was c.then.ensures,
       )
   | in-Err w ↦ absurd (not_both c.match-open_all.due c.in_ok-due.due w.in-Err.failure c.in_ok-due.was w.due-is)
 ]

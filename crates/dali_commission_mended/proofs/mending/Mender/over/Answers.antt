@@ -31,5 +31,5 @@ returns-in-Ok-kept g c =
     (subst (λ ts. AreOf c.in-Ok.table.enrolled [] ts)
     (c.deref.ensures.value ∙ c.in_ok-add.ensures ∙ ap (λ k. c.args.self.tables.items ++ k ∷ []) c.copy.ensures) c.in-Ok.ensures.of)
     c.came_to_or_not-came.ensures c.in-Ok-kept.ensures.read
-    (subst (AreMendsTold (g.S.Voice.told c.args.self.system.now)) c.deref-in-Ok-kept.ensures.value c.say_mended.ensures) c.told.ensures.ended
-    c.told.ensures.report
+    (subst (AreMendsTold (g.S.Voice.told c.args.self.system.now) c.in-Ok-kept.after) c.deref-in-Ok-kept.ensures.value c.say_mended.ensures)
+    c.told.ensures.told c.told.ensures.ended c.told.ensures.report

@@ -1,5 +1,5 @@
-use Rattle.std.proofs.Common.{inl, inr, refl}
-use Rattle.dali_commission_replaced.proofs.Cut.{not_there}
+use Rattle.std.proofs.Common.{inr, refl, sym}
+use Rattle.dali_commission_replaced.proofs.Cut.{missing, missing_unheard, not_there}
 use Rattle.dali_commission_replaced.proofs.confirming.Asking.others_there.Goals as goal
 
 pub returns-then-has_heard-clause-failed : goal.returns-then-has_heard-clause-failed
@@ -14,7 +14,7 @@ returns-then-has_heard-clause-failed g c =
         c.in-Ok-ask.ensures.heard.1,
         c.in-Ok-ask.ensures.heard.2,
         not_there c.are_there.result _ _ _ _ c.are_there.ensures c.if-are_there.false c.deref.ensures.value c.in-Ok-ask.ensures.heard.3,
-        inl c.say_missing.ensures,
+        missing _ _ _ _ _ _ _ (sym c.if-has_heard.ensures) c.in-Ok-ask.ensures.heard.3 c.say_missing.ensures,
       ),
     )
 
@@ -30,6 +30,6 @@ returns-else-has_heard-clause-failed g c =
         c.in-Ok-ask.ensures.heard.1,
         c.in-Ok-ask.ensures.heard.2,
         not_there c.are_there.result _ _ _ _ c.are_there.ensures c.if-are_there.false c.deref.ensures.value c.in-Ok-ask.ensures.heard.3,
-        inr refl,
+        missing_unheard _ _ _ _ _ refl (sym c.if-has_heard.ensures),
       ),
     )

@@ -1,16 +1,16 @@
 use Rattle.std.proofs.Common.{refl}
 use Rattle.dali_commission_replaced.proofs.Cut.{unput, dues_noted}
-use Rattle.dali_commission_replaced.proofs.replacing.ReplacingHolderDriverLink.take.Goals as goal
+use Rattle.dali_commission_replaced.proofs.replacing.ReplacingHolderSession.take.Goals as goal
 
 pub returns-in_err-are_unannounced : goal.returns-in_err-are_unannounced
 returns-in_err-are_unannounced g c =
     unput g.F.Open.Keep.is_up g.F.Open.Keep.is_sound g.F.Open.Keep.holds g.F.Open.Keep.kept g.F.Open.Keep.block g.F.Stores.made g.F.Stores.saw
     g.F.Stores.opens g.R.Read.remaining g.W.Write.contents _ _ _ _ _ _ _ _ c.from_residual.result
-    c.from_residual.ensures.0 refl
+    c.from_residual.ensures.0 refl refl
 
 pub returns : goal.returns
 returns g c =
     dues_noted g.F.Open.Keep.is_up g.F.Open.Keep.is_sound g.F.Open.Keep.holds g.F.Open.Keep.kept g.F.Open.Keep.block g.F.Stores.made g.F.Stores.saw
-    g.F.Stores.opens g.R.Read.remaining g.W.Write.contents _ _ _ _ _ _ _ _ c.gives-gave.result
+    g.F.Stores.opens g.R.Read.remaining g.W.Write.contents _ _ _ _ _ _ _ _ _ _ _ c.gives-gave.result
     c.note_lines.result c.note_lines.ensures.ended c.in_ok-are_unannounced.ensures c.gives-gave.ensures.due c.gives-gave.ensures.replaced
-    c.gives-gave.ensures.failed
+    c.gives-gave.ensures.noted c.gives-gave.ensures.failed c.note_lines.ensures.report
