@@ -8,7 +8,7 @@ use Rattle.dali_commissioning.specs.declared.{conducting.PassEnd.PassEnd, driver
 use Rattle.dali_commissioning.specs.{Census.IsAnswered, Drivers.{Talk, talk_of, lines_of}, Runs.IsRead}
 use Rattle.dali_replacement.specs.declared.come.Come.{Come}
 use Rattle.dali_replacement.specs.{Permit.{HasGiven, HasLooked, alone, confirmed_at, confirmed_random}, Tables.{IsComplete, IsGathered}}
-use Rattle.dali_replacement.specs.{declared.swapping.Swap.Swap, Swapping.{address_of, number_of, texts_of}}
+use Rattle.dali_replacement.specs.{declared.swapping.Swap.Swap, Swapping.{address_of, names_of, number_of, texts_of}}
 use Rattle.dali_commission_said.specs.declared.{failure.Failure.Failure, progress.Aim.Aim, report.{Report.Report, Session.Session}, said.Said.Said}
 use Rattle.dali_commission_said.specs.{Reports.heard_of, Said.{AreTold, WhySaid, heard_said}}
 use Rattle.dali_commission_tasks.specs.declared.tasks.Replacement.{Replacement}
