@@ -9,7 +9,6 @@
 
 #define YES 0xFF
 #define NO_ANSWER (-1)
-#define MILLION 1000000
 
 void bus_new(struct bus *bus, uint64_t seed, uint32_t gear_count)
 {

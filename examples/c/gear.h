@@ -26,6 +26,7 @@ struct gear {
 };
 
 /* How often each trouble comes, per million frames. */
+#define MILLION 1000000
 struct troubles {
     /* The frame is destroyed; each gear takes it or not. */
     uint32_t destroyed;

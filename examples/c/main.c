@@ -17,7 +17,6 @@
 #include <unistd.h>
 
 #define MOST_STEPS 1000000UL
-#define MILLION 1000000
 
 enum exit_status {
     EXIT_ALL_FOUND = 0,

@@ -1,7 +1,7 @@
-/* The controller of node.c over simulated gear and a simulated flash, whose power is cut at random moments of both, until it
- * comes up a last time. No C library is needed: it runs on a bare processor, by tools/check/c-cross. */
+/* The controller of node.c with a port at the pins of a simulated bus, and a simulated flash. Its power is cut at random moments of
+ * both, until it comes up a last time. No C library is needed: it runs on a bare processor, by tools/check/c-cross. */
 #include "chance.h"
-#include "gear.h"
+#include "line.h"
 #include "node.h"
 #include "support.h"
 
@@ -20,15 +20,13 @@ static uint8_t torn[PAGES][PAGE_SLOTS * SLOT_BYTES];
 static int is_correcting;
 static struct bus bus;
 static struct node node;
-static struct dali_order put;
+static struct line line;
 static uint64_t chance;
 /* How many moments of flash and bus are left before the power is cut; 0 once it is cut. What happens then has no effect. */
 static uint32_t moments;
 /* How many writes are left before the power is cut in the midst of one, if it is. */
 static uint32_t writes_left;
 static uint32_t cuts, frames, writes, erasures;
-/* What every frame is told as, if the bus has failed; else DALI_START, which no frame is told as. */
-static uint8_t failed_as = DALI_START;
 /* How often a survey has asked at the last address, at which no gear is, since a record was written: three times in each. */
 static uint32_t surveyed;
 
@@ -110,10 +108,12 @@ int flash_write(int page, int slot, const uint8_t *bytes)
     return how == 2;
 }
 
+/* The first question at last is destroyed, so it is asked once more. */
 void bus_put(const struct dali_order *order)
 {
-    put = *order;
-    surveyed += put.address_byte == 2 * DALI_ADDRESSES - 1 && put.opcode_byte == 0xC2;
+    must(line_put(&line, order, node.is_asking && node.asked == 1) == DALI_OK, "a port refuses a frame");
+    surveyed += order->address_byte == 2 * DALI_ADDRESSES - 1 && order->opcode_byte == 0xC2;
+    frames++;
 }
 
 /* The simulated gear are those of the other example, which can be killed; here nothing is. */
@@ -121,25 +121,13 @@ void stop_on_bus(void)
 {
 }
 
-/* The first question at last is lost, so it is asked once more. */
-static int is_lost(void)
-{
-    return node.is_asking && node.asked == 1;
-}
-
-/* The bare loop: it waits for an event, and hands it to the task. Here the only event is the end of a frame. */
+/* The bare loop: it waits for an interrupt, and hands to the task what the port tells. */
 static void loop(void)
 {
-    for (uint32_t count = 0; node.state == NODE_ON_BUS && moments > 0; count++) {
-        struct told told = {DALI_LAPSED, 0};
+    while (node.state == NODE_ON_BUS && power() == 2) {
+        struct told told = line_wait(&line);
 
-        must(count < MOST_FRAMES, "a controller alone does not end");
-        if (power() > 0 && failed_as == DALI_START && !is_lost())
-            told = bus_send(&bus, put.address_byte, put.opcode_byte);
-        else if (failed_as != DALI_START)
-            told.input = failed_as;
-        frames++;
-        if (moments > 0)
+        if (told.input != 0)
             node_told(&node, told.input, told.byte);
     }
 }
@@ -177,14 +165,22 @@ static int is_any_left(void)
     return 0;
 }
 
-/* A life, and how it ended, if it has power for so many moments. */
+/* Power for so many moments, with a block of short addresses. */
+static void wake(uint32_t count, uint8_t first, uint8_t last)
+{
+    moments = count;
+    line_begin(&line, &bus);
+    node_begin(&node, first, last, DALI_SURVEY);
+}
+
+/* A life, and how it ended. */
 static enum node_state live(uint32_t count)
 {
     struct dali_records records;
 
-    moments = count;
-    node_begin(&node, 0, DALI_ADDRESSES - 1, DALI_SURVEY);
+    wake(count, 0, DALI_ADDRESSES - 1);
     loop();
+    must(node.frames < MOST_FRAMES, "a controller alone does not end");
     if (dali_machine_records(&node.machine, &records) == DALI_OK)
         check_site(&records);
     return node.state;
@@ -203,13 +199,15 @@ static void begin(uint64_t seed)
 /* A site whose controller is cut off some times, and then is not. */
 static void commission(uint64_t seed)
 {
+    static const uint32_t most[] = {300, 20000, 300000};
+
     begin(seed);
     for (int life = 0; life < LIVES; life++) {
         enum node_state state;
 
         bus.troubles = (struct troubles){2000, 2000, 2000, 2000, 2000, 200};
         writes_left = chance_below(&chance, 2) ? 1 + chance_below(&chance, 2 * MOST_GEAR) : 0;
-        state = live(1 + chance_below(&chance, chance_below(&chance, 2) ? 300 : 4000));
+        state = live(1 + chance_below(&chance, most[life % 3]));
         must(moments == 0 || state == NODE_READY || state == NODE_BUS_FAILS, "a controller with power is not ready");
     }
     bus.troubles = (struct troubles){0, 0, 0, 0, 0, 0};
@@ -219,18 +217,19 @@ static void commission(uint64_t seed)
     must(!is_any_left(), "a gear is left");
 }
 
-/* The bus fails from the beginning, or once all gear have an address: no controller says that it is ready. */
+/* The bus fails from the beginning, or once all gear have an address: no controller says that it is ready. At first it has no power. */
 static void fail(uint64_t seed)
 {
-    static const uint8_t failures[] = {DALI_LAPSED, DALI_DESTROYED, DALI_HEARD_DAMAGED, DALI_HEARD_SILENCE};
+    static const struct troubles failures[] = {{0}, {.destroyed = MILLION}, {.lost = MILLION}, {.damaged = MILLION, .joined = MILLION}};
 
     begin(seed);
     for (int commissioned = 0; commissioned < 2; commissioned++) {
-        for (uint32_t at = 0; at < sizeof failures; at++) {
-            failed_as = failures[at];
+        for (uint32_t at = 0; at < sizeof failures / sizeof *failures; at++) {
+            line.is_dead = at == 0;
+            bus.troubles = failures[at];
             must(live(FOR_GOOD) == NODE_BUS_FAILS, "a controller on a bus that has failed does not say so");
         }
-        failed_as = DALI_START;
+        bus.troubles = failures[0];
         must(live(FOR_GOOD) == NODE_READY, "a controller on a bus that works again is not ready");
         must(surveyed >= 9, "fewer than three runs have found nothing more");
     }
@@ -272,9 +271,8 @@ static void reopen(uint64_t seed)
 static void bound(uint64_t seed)
 {
     begin(seed);
-    node_begin(&node, 0, DALI_ADDRESSES - 1, DALI_SURVEY);
+    wake(FOR_GOOD, 0, DALI_ADDRESSES - 1);
     node.frames = NODE_MOST_FRAMES - 10;
-    moments = FOR_GOOD;
     loop();
     must(node.state == NODE_BUS_FAILS && node.frames == NODE_MOST_FRAMES + 1, "the runs have no bound");
 }
@@ -295,8 +293,7 @@ static void fill(uint64_t seed)
 {
     begin(seed);
     bus.gear_count = 2;
-    moments = FOR_GOOD;
-    node_begin(&node, 5, 5, DALI_SURVEY);
+    wake(FOR_GOOD, 5, 5);
     loop();
     must(node.state == NODE_BLOCK_FULL && is_any_left(), "a block that is full is not said to be");
 }

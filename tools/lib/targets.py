@@ -19,6 +19,8 @@ from yolgibat import standard
 BARE = ROOT / "tools/lib/bare"
 EXAMPLE = ROOT / "examples" / "c"
 FIRMWARE = ROOT / "examples" / "firmware"
+# What it takes of the other example.
+AT_PINS = ("gear.c", "line.c", "pins.c")
 INCLUDE = ROOT / "include"
 MOST_SECONDS = 1800
 BOARD = ["qemu-system-arm", "-nographic", "-monitor", "none", "-serial", "none"]
