@@ -1,8 +1,9 @@
 mod Levels
 mod Words
-mod Begins
+pub mod Begins
 mod Course
 mod Runs
 mod Ends
 mod Stretches
 mod Heard
+mod Bounds
