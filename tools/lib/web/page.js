@@ -213,7 +213,7 @@ function draw(story) {
   at('draw').hidden = true;
   at('picture-say').textContent = '';
   const [before, after] = viewer.split('/*' + 'STORY*/');
-  const page = new Blob([before.replace('<!--RESULT-->', ''), textOf(story).replaceAll('<', '\\u003c'), after], { type: 'text/html' });
+  const page = new Blob([before, textOf(story).replaceAll('<', '\\u003c'), after], { type: 'text/html' });
   if (drawing) URL.revokeObjectURL(drawing);
   drawing = URL.createObjectURL(page);
   // A new frame in place of the old one leaves no step in the browser's history.
