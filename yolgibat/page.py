@@ -1,21 +1,7 @@
-"""Serves one page for a bus on this computer alone, by which an installer gives addresses and writes down where luminaires hang:
+"""Serves one page for a bus on this computer alone, by which an installer gives addresses and writes down where luminaires hang: its help and
+docs/INSTALLER.md say what it does.
 
-    ./dali_commission page --records FILE [--records FILE].. [--others BLOCK].. --driver COMMAND [--driver-timeout SECONDS]
-                           [--port N] [--open] [BLOCK]
-    ./dali_commission page --ask [--port N] [--open]
-
-It writes the address of the page, which has a token, and serves until it is interrupted. With --open a browser is started with
-it. With --ask the page asks for the file of the records, the driver and the block. It listens on 127.0.0.1. A request without the token, from another origin or with a foreign Host is refused. What the page asks for is done by dali_commission
-itself: run, check, identify, table and replace, one at a time. A run goes on when the page is closed; it ends with this program.
-Where the program was killed, a further one follows the command that it began, by its story, and may stop it.
-
-The places of the luminaires are kept beside the first file of the records: those of site.db in site.names.json, by random
-address. site.db.page keeps the address of the page, for the user alone: the next page has the same token, and the same port, if
-no other is said and nothing else has it. If others may read that file, or it is removed, the next page has another token.
-
-Exit statuses: 0 where a page is served over these records already, whose address is written; 2 for a bad word; 5 where the folder
-of the records cannot be written; 126, 127 and 130 if the program is not there; 128 and the number of the signal that ended it.
-"""
+The status is 0 if a page is served over these records already, whose address is written; 5 if the folder of the records cannot be written."""
 
 import argparse
 import collections.abc
