@@ -521,13 +521,7 @@ def serve(chosen: argparse.Namespace, building: Building, program: str) -> int:
     if not opened:
         return 0
     them = building_page.made(building, program)
-    servers = []
-
-    def make(port, token):
-        servers.append(building_page.Server(building.name, them, port, token))
-        return servers[-1]
-
-    return serving.serve(make, opened, chosen.port, chosen.open, lambda: servers[-1].end())
+    return serving.serve(lambda port, token: building_page.Server(building.name, them, port, token), opened, chosen.port, chosen.open)
 
 
 def main(chosen: argparse.Namespace) -> int:
