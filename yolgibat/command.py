@@ -1,12 +1,6 @@
-"""The command line of the launchers. What is the front's own is taken here and nowhere else; all else is the program's.
+"""The command line of the launchers: what is the front's own is taken here and nowhere else, all else is the program's.
 
-COMMAND of --driver is split into words as a shell does it; a relative path in it is looked for in the current folder, and then where the
-launchers are. With --story and --trace FILE is made anew if it is empty, a story or a trace, and none of the files that the call works with.
-What is said over a driver is in the language of --lang, or else of the terminal, as far as it has a translation.
-
-Exit statuses: those of the program, and of what is done in its place; 2 for a bad word; 5 where a file of the records, or beside them, cannot
-be had; 127 if a driver cannot be started; 126, 127 and 130 if the program is not there; 130 if it is interrupted.
-"""
+docs/FORMAT.md has the exit statuses, docs/ADAPTERS.md what a COMMAND of a driver is."""
 
 import argparse
 import contextlib
