@@ -1,0 +1,5 @@
+mod Seen
+mod Spans
+mod Taken
+mod Begun
+mod Two
