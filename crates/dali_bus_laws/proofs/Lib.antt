@@ -3,3 +3,4 @@ mod Spans
 mod Taken
 mod Begun
 mod Two
+mod Broken

@@ -33,6 +33,17 @@ stop_seen passed v w one two lo = within one.time two.time one.counts.1 two.coun
   within : (x y : ℕ) → 1000 * v ≤ 1005 * (x + 1) → 995 * y ≤ 1000 * (w + 1) → x ≤ passed + 18 → passed ≤ y + 18 → 2400 ≤ w
   within x y b c f g = omega arith
 
+-- a high that is no stop condition yet, and a low that is a break
+pub high_seen : (passed v w : ℕ) → IsSeen table passed v → IsSeen table passed w → v ≤ 2250 → w < 2400
+high_seen passed v w one two hi = within one.time two.time one.counts.0 two.counts.1 one.more two.less where
+  within : (x y : ℕ) → 995 * x ≤ 1000 * (v + 1) → 1000 * w ≤ 1005 * (y + 1) → passed ≤ x + 18 → y ≤ passed + 18 → w < 2400
+  within x y a b c d = omega arith
+
+pub break_seen : (passed v w : ℕ) → IsSeen table passed v → IsSeen table passed w → 1250 ≤ v → 1000 < w
+break_seen passed v w one two lo = within one.time two.time one.counts.1 two.counts.0 one.less two.more where
+  within : (x y : ℕ) → 1000 * v ≤ 1005 * (x + 1) → 995 * y ≤ 1000 * (w + 1) → x ≤ passed + 18 → passed ≤ y + 18 → 1000 < w
+  within x y a b c d = omega arith
+
 -- what passed, if a port counts no more than two half bits
 pub soon_seen : (passed v : ℕ) → IsSeen table passed v → v ≤ 874 → passed < 2000
 soon_seen passed v one hi = within one.time one.counts.0 one.more where

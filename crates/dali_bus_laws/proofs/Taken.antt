@@ -21,20 +21,20 @@ use Rattle.dali_bus_laws.proofs.Spans.{half_seen, whole_seen, stop_seen}
 
 -- one edge of a port, of the bus, and of a receiver
 pub record Edge (x : Bool) (at last : ℕ) (levels : List Bool) (w : Edges) : Type 0 where
-  moment : ℕ
-  passed : ℕ
-  gap : ℕ
-  es : Edges
-  bus : Edges
-  rest : Edges
-  is : w ≡ (not x, gap) ∷ rest
-  least : at ≤ moment
-  most : moment ≤ at + 40
-  edges : AreEdgesOf (not x) (at + 417) levels es
-  one : IsSeen table passed (moment - last)
-  two : IsSeen table passed gap
-  sees : Sees table bus (spaced moment es)
-  seen : Sees table bus rest
+  pub moment : ℕ
+  pub passed : ℕ
+  pub gap : ℕ
+  pub es : Edges
+  pub bus : Edges
+  pub rest : Edges
+  pub is : w ≡ (not x, gap) ∷ rest
+  pub least : at ≤ moment
+  pub most : moment ≤ at + 40
+  pub edges : AreEdgesOf (not x) (at + 417) levels es
+  pub one : IsSeen table passed (moment - last)
+  pub two : IsSeen table passed gap
+  pub sees : Sees table bus (spaced moment es)
+  pub seen : Sees table bus rest
 
 edge_to : (x : Bool) (at last : ℕ) (levels : List Bool) (e : Bool × ℕ) (es : Edges) (b : Bool × ℕ) (bus : Edges) (s : Bool × ℕ) (w : Edges)
     → e.0 ≡ not x → at ≤ e.1 → e.1 ≤ at + 40 → AreEdgesOf (not x) (at + 417) levels es → Sees table (b ∷ bus) (spaced last (e ∷ es))
@@ -68,14 +68,14 @@ one_edge false at last levels (e ∷ es) (b ∷ bus) (s ∷ w) edges sees seen =
     edge_to false at last levels e es b bus s w edges.0 edges.1 edges.2 edges.3 sees seen
 
 -- the stop condition
-abbrev AfterStop : Edges → Type 0
+abbrev pub AfterStop : Edges → Type 0
 AfterStop [] = Unit {0}
 AfterStop (e ∷ edges) = 2400 ≤ e.1
 
-long_since : (last at moment : ℕ) → last + 2462 ≤ at → at ≤ moment → 2462 ≤ moment - last
+pub long_since : (last at moment : ℕ) → last + 2462 ≤ at → at ≤ moment → 2462 ≤ moment - last
 long_since last at moment long late = omega arith
 
-ends : (at last : ℕ) (es bus w : Edges) → last + 2462 ≤ at → AreEdgesOf false at [] es → Sees table bus (spaced last es) → Sees table bus w → AfterStop w
+pub ends : (at last : ℕ) (es bus w : Edges) → last + 2462 ≤ at → AreEdgesOf false at [] es → Sees table bus (spaced last es) → Sees table bus w → AfterStop w
 ends at last [] [] [] long edges sees seen = tt
 ends at last [] [] (s ∷ w) long edges sees seen = absurd seen
 ends at last [] (b ∷ bus) w long edges sees seen = absurd sees
@@ -85,12 +85,12 @@ ends at last (e ∷ es) (b ∷ bus) (s ∷ w) long edges sees seen =
     stop_seen b.1 (e.1 - last) s.1 sees.1 seen.1 (long_since last at e.1 long edges)
 
 -- the bits from the edge in the middle of one on
-record Takes (x : Bool) (bits : List Bool) (w : Edges) : Type 0 where
-  times : List ℕ
-  more : Edges
-  is : w ≡ by_turns (not x) times ++ more
-  are : AreTimes x bits times
-  stop : AfterStop more
+pub record Takes (x : Bool) (bits : List Bool) (w : Edges) : Type 0 where
+  pub times : List ℕ
+  pub more : Edges
+  pub is : w ≡ by_turns (not x) times ++ more
+  pub are : AreTimes x bits times
+  pub stop : AfterStop more
 
 half_least : (at last moment : ℕ) → last + 417 ≤ at + 40 → at ≤ moment → 377 ≤ moment - last
 half_least at last moment a b = omega arith
@@ -104,18 +104,18 @@ whole_least at last moment a b = omega arith
 whole_most : (at last moment : ℕ) → at ≤ last + 417 → moment ≤ at + 417 + 40 → moment - last ≤ 874
 whole_most at last moment a b = omega arith
 
-next_least : (at last : ℕ) → at ≤ last → at + 417 ≤ last + 417
+pub next_least : (at last : ℕ) → at ≤ last → at + 417 ≤ last + 417
 next_least at last h = omega arith
 
-next_most : (at last : ℕ) → last ≤ at + 40 → last + 417 ≤ at + 417 + 40
+pub next_most : (at last : ℕ) → last ≤ at + 40 → last + 417 ≤ at + 417 + 40
 next_most at last h = omega arith
 
-a_half : (at last moment passed gap : ℕ) → at ≤ last + 417 → last + 417 ≤ at + 40 → at ≤ moment → moment ≤ at + 40 → IsSeen table passed (moment - last)
+pub a_half : (at last moment passed gap : ℕ) → at ≤ last + 417 → last + 417 ≤ at + 40 → at ≤ moment → moment ≤ at + 40 → IsSeen table passed (moment - last)
     → IsSeen table passed gap → IsHalf gap
 a_half at last moment passed gap lo hi least most one two =
     half_seen passed (moment - last) gap one two (half_least at last moment hi least) (half_most at last moment lo most)
 
-a_whole : (at last moment passed gap : ℕ) → at ≤ last + 417 → last + 417 ≤ at + 40 → at + 417 ≤ moment → moment ≤ at + 417 + 40
+pub a_whole : (at last moment passed gap : ℕ) → at ≤ last + 417 → last + 417 ≤ at + 40 → at + 417 ≤ moment → moment ≤ at + 417 + 40
     → IsSeen table passed (moment - last) → IsSeen table passed gap → IsWhole gap
 a_whole at last moment passed gap lo hi least most one two =
     whole_seen passed (moment - last) gap one two (whole_least at last moment hi least) (whole_most at last moment lo most)
@@ -126,7 +126,7 @@ after_five at last h = omega arith
 after_six : (at last : ℕ) → last + 417 ≤ at + 40 → last + 2462 ≤ at + 417 + 417 + 417 + 417 + 417 + 417
 after_six at last h = omega arith
 
-cons_is : (w rest ws : Edges) (e : Bool × ℕ) → w ≡ e ∷ rest → rest ≡ ws → w ≡ e ∷ ws
+pub cons_is : (w rest ws : Edges) (e : Bool × ℕ) → w ≡ e ∷ rest → rest ≡ ws → w ≡ e ∷ ws
 cons_is w rest ws e one two = one ∙ ap (λ es. e ∷ es) two
 
 takes : (bits : List Bool) (x : Bool) (at last : ℕ) (es bus w : Edges) → at ≤ last + 417 → last + 417 ≤ at + 40
@@ -227,7 +227,7 @@ told_later : (o later : Option Told) (f : Frame) → o ≡ None → option_map (
     → option_map (λ told. told.frame) (or_later o later) ≡ Some f
 told_later o later f none is = subst (λ p. option_map (λ (told : Told). told.frame) (or_later p later) ≡ Some f) (sym none) is
 
-reads : (times : List ℕ) (q : Reading) (l : Bool) (lasted : ℕ) (more : Edges) (rest : ℕ) (f : Frame) → HasRead q l times f → AfterStop more → 2400 ≤ rest
+pub reads : (times : List ℕ) (q : Reading) (l : Bool) (lasted : ℕ) (more : Edges) (rest : ℕ) (f : Frame) → HasRead q l times f → AfterStop more → 2400 ≤ rest
     → first_read (record { reading = q; is_low = l; lasted = lasted }) (by_turns (not l) times ++ more) rest ≡ Some f
 reads [] q true lasted more rest f h stop long = absurd (let off : true ≡ false = h.1 in cc)
 reads [] q false lasted [] rest f h stop long = told_frame q false lasted rest f h.0 refl long

@@ -32,7 +32,7 @@ sent_taken bus seen f r rest a sees idle high long =
     long
 
 -- the moments of edges go on
-abbrev Sorted : ℕ → Edges → Type 0
+abbrev pub Sorted : ℕ → Edges → Type 0
 Sorted from [] = Unit {0}
 Sorted from (e ∷ edges) = (from ≤ e.1) × Sorted e.1 edges
 
@@ -43,7 +43,7 @@ sorted_later : (from at : ℕ) (es : Edges) → from ≤ at → Sorted at es →
 sorted_later from at [] less h = tt
 sorted_later from at (e ∷ es) less h = (le_along from at e.1 less h.0, h.1)
 
-sorted : (calls : List Call) (from : ℕ) → InOrder from calls → Sorted from (edges_in calls)
+pub sorted : (calls : List Call) (from : ℕ) → InOrder from calls → Sorted from (edges_in calls)
 sorted [] from h = tt
 sorted (Sends order now ∷ calls) from h = sorted_later from now (edges_in calls) h.0 (sorted calls now h.1)
 sorted (Times now ∷ calls) from h = sorted_later from now (edges_in calls) h.0 (sorted calls now h.1)

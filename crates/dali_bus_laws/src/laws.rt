@@ -19,6 +19,7 @@ ghost use Rattle.dali_bus_laws.specs.Table.{table};
 ghost use Rattle.dali_bus_laws.specs.Bus.{Edges, SeesFrom, first_read};
 ghost use Rattle.dali_bus_laws.specs.Pins.{edges_in, InOrder, AreEdgesOf, HasBegun, SendsWhole};
 ghost use Rattle.dali_bus_laws.specs.Pins.{seen_at, over_at};
+ghost use Rattle.dali_bus_laws.specs.Breaks.{BreaksOff};
 
 /// A frame begins at rest: whatever the port did before, if its timer begins one, the bus is high, and no edge came for
 /// the settling time of its priority.
@@ -49,4 +50,12 @@ pub fn what_was_whole_was_taken()
 pub fn two_do_not_both_succeed()
     ensures { (lead bus : Edges) (f g : Sent) (a : SendsWhole table (lead ++ bus) f) (b : SendsWhole table bus g)
         → ((lead ≡ []) × (f ≡ g)) ⊎ (over_at a ≤ seen_at a (length lead)) }
+{}
+
+/// What a port began and broke off, each receiver that was at rest reads as that frame, or as no forward frame.
+pub fn what_was_destroyed_was_taken_as_sent_or_not()
+    ensures { (bus seen : Edges) (frame read : Sent) (r : Receiver) (rest : ℕ)
+        → BreaksOff table bus frame → SeesFrom table bus seen
+        → r.reading ≡ Idle → r.is_low ≡ false → 2400 ≤ rest
+        → first_read r seen rest ≡ Some (Forward read) → read ≡ frame }
 {}
