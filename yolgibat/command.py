@@ -10,6 +10,7 @@ be had; 127 if a driver cannot be started; 126, 127 and 130 if the program is no
 
 import argparse
 import contextlib
+import ipaddress
 import os
 import pathlib
 import re
@@ -111,6 +112,14 @@ def port_of(word: str) -> int:
     return int(word)
 
 
+def host_of(word: str) -> str:
+    """An address of this computer on a network, of IPv4."""
+    try:
+        return str(ipaddress.IPv4Address(word))
+    except ValueError as why:
+        raise argparse.ArgumentTypeError(f"'{word}' is no address such as 192.168.1.20") from why
+
+
 def count_of(word: str) -> int:
     """How many buses at once."""
     if not re.fullmatch(r"[1-9][0-9]{0,3}", word):
@@ -169,6 +178,7 @@ def of_page(words: list[str]) -> argparse.Namespace:
     options.add_argument("--others", action="append", type=block_of, default=[])
     options.add_argument("--port", type=port_of, default=0)
     options.add_argument("--open", action="store_true")
+    options.add_argument("--listen", type=host_of)
     options.add_argument(EXPECT, action="append")
     options.add_argument("--program")
     options.add_argument("block", nargs="?", type=block_of, default="0-63")

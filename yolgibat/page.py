@@ -1,12 +1,14 @@
 """Serves one page for a bus on this computer alone, by which an installer gives addresses and writes down where luminaires hang:
 
     ./dali_commission page --records FILE [--records FILE].. [--others BLOCK].. --driver COMMAND [--driver-timeout SECONDS]
-                           [--port N] [--open] [BLOCK]
+                           [--port N] [--open] [--listen ADDRESS] [BLOCK]
     ./dali_commission page --ask [--port N] [--open]
 
 It writes the address of the page, which has a token, and serves until it is interrupted. With --open a browser is started with
-it. With --ask the page asks for the file of the records, the driver and the block. It listens on 127.0.0.1. A request without the token, from another origin or with a foreign Host is refused. What the page asks for is done by dali_commission
-itself: run, check, identify, table and replace, one at a time. A run goes on when the page is closed; it ends with this program.
+it. With --ask the page asks for the file of the records, the driver and the block. It listens on 127.0.0.1. A request without the token,
+from another origin or with a foreign Host is refused. With --listen it listens at this address of the computer, too, for devices that are let
+in by a code (listening.py). What the page asks for is done by dali_commission itself: run, check, identify, table and replace, one at a time.
+A run goes on when the page is closed; it ends with this program.
 Where the program was killed, a further one follows the command that it began, by its story, and may stop it.
 
 The places of the luminaires are kept beside the first file of the records: those of site.db in site.names.json, by random
@@ -20,13 +22,14 @@ of the records cannot be written; 126, 127 and 130 if the program is not there; 
 import argparse
 import collections.abc
 import fcntl
+import functools
 import json
 import os
 import pathlib
 import threading
 import typing
 
-from yolgibat import ROOT, command, commanding, forked, joining, programs, serving, standard, texts
+from yolgibat import ROOT, command, commanding, forked, joining, listening, programs, serving, standard, texts
 
 BAD_WORD, NO_RECORDS = 2, 5
 PAGE = ROOT / "yolgibat/choose.html"
@@ -125,8 +128,9 @@ def main(chosen: argparse.Namespace, opened: typing.TextIO | None = None) -> int
         bus.go_on(left)
     else:
         fcntl.flock(opened, fcntl.LOCK_EX)
+    beside = functools.partial(listening.listen, host=chosen.listen) if chosen.listen else id
     try:
-        return serving.serve(lambda port, token: serving.Server(bus, port, token), opened, chosen.port, chosen.open, bus.end)
+        return serving.serve(lambda port, token: serving.Server(bus, port, token), opened, chosen.port, chosen.open, bus.end, beside)
     except OSError as why:
         standard.say(f"error: the page cannot be served: {why.strerror}")
         return BAD_WORD

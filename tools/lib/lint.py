@@ -11,7 +11,7 @@ import sys
 import types
 from collections.abc import Iterator
 
-from lib import line_forms, spelled, statement, writing, wrong_bodies
+from lib import line_forms, spelled, statement, whole, writing, wrong_bodies
 
 WIDTHS = {"src": (".rt", 120), "specs": (".antt", 100), "proofs": (".antt", 160)}
 LONGEST = 800
@@ -377,7 +377,7 @@ RULES = (
     handles, spellings, forms, page, edits, version, helps, front, annotations,
 )
 # What is told, and is no offence.
-WARNINGS = (writing.sentences,)
+WARNINGS = (writing.sentences, whole.whole)
 
 
 def offences(root: pathlib.Path | str, rules: tuple = RULES) -> dict[str, list[str]]:
