@@ -55,6 +55,11 @@ static void drive(uint32_t how)
     TIM2[TIM_CCMR1] = CAPTURES | how << 12;
 }
 
+static int is_past(uint32_t at)
+{
+    return (int32_t)(TIM2[TIM_CNT] - at) >= 0;
+}
+
 uint32_t pins_clock(struct pins *it)
 {
     (void)it;
@@ -78,13 +83,19 @@ uint8_t pins_level(struct pins *it)
     return GPIOA[GPIO_IDR] & 1;
 }
 
+/* A level whose time is past is not driven any more, since the unit has changed it to the next one already. */
 void pins_drive(struct pins *it, uint8_t is_low, uint32_t at)
 {
-    drive(is_low ? HIGH_NOW : LOW_NOW);
+    uint8_t is_next = it->event.next, is_due = is_past(at) ? is_next : is_low;
+
     TIM2[TIM_CCR2] = at;
-    drive(it->event.next ? HIGH_THEN : LOW_THEN);
-    if ((int32_t)(TIM2[TIM_CNT] - at) >= 0)
+    if ((GPIOA[GPIO_IDR] >> 1 & 1) != is_due)
+        drive(is_due ? HIGH_NOW : LOW_NOW);
+    drive(is_next ? HIGH_THEN : LOW_THEN);
+    if (is_past(at)) {
+        drive(is_next ? HIGH_NOW : LOW_NOW);
         TIM2[TIM_EGR] = MOMENT;
+    }
 }
 
 void pins_tell(struct pins *it, const struct dali_event *event)
