@@ -127,7 +127,7 @@ TAKEN, SIZE = "docs/pictures/building.png", (1000, 820)
 CALLS, ENDED, FRAMES = 4, (0, 13), 3000
 # The processes of a building, by what their command lines have.
 DRIVERS = "the drivers"
-KINDS = {"what joins each program and its driver": b"forked.serve", DRIVERS: b"adapters/simulated", "the command": b"yolgibat"}
+KINDS = {"what joins each program and its driver": b"import apart", DRIVERS: b"adapters/simulated", "the command": b"yolgibat"}
 
 
 class Many(Room):
