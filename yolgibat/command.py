@@ -452,25 +452,18 @@ def draw(kind: str, words: list[str]) -> int:
 
 def of_audit(words: list[str]) -> tuple[str, dict[str, str], list[str]]:
     """The capture of an audit, the files of `--bench` and `--story`, and the words of the program."""
-    found, files, rest, left = None, {}, [], list(words)
-    while left:
-        word = left.pop(0)
-        if word in ("--bench", "--story", "--wire"):
-            if not left or not left[0]:
-                raise BadWord(f"`{word}` takes a {'name' if word == '--wire' else 'file'}")
-            value = left.pop(0)
-            files, rest = (files, [*rest, word, value]) if word == "--wire" else ({**files, word: value}, rest)
-        elif word.startswith("--"):
-            rest.append(word)
-        elif found is not None:
-            raise BadWord(f"`audit` takes one capture, and not '{word}' too")
-        else:
-            found = word
-    if not found:
+    rest, given = parted(words, "--bench", "--story", "--wire")
+    if lacks := next((it for it, values in given.items() if "" in values), None):
+        raise BadWord(f"`{lacks}` takes a {'name' if lacks == '--wire' else 'file'}")
+    captures, wires = [it for it in rest if not it.startswith("--")], [word for it in given.pop("--wire") for word in ("--wire", it)]
+    files = {name: values[-1] for name, values in given.items() if values}
+    if not captures:
         raise BadWord("`audit` takes a capture: ./dali_sim audit CAPTURE")
-    if found == "-" and files:
+    if captures[1:]:
+        raise BadWord(f"`audit` takes one capture, and not '{captures[1]}' too")
+    if captures == ["-"] and files:
         raise BadWord(f"with `{next(iter(files))}` the capture is a file")
-    return found, files, rest
+    return captures[0], files, [*wires, *(it for it in rest if it.startswith("--"))]
 
 
 LAUNCHERS = {COMMISSION: commission, SIMULATE: simulate, VIEW: view}

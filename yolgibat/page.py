@@ -13,7 +13,7 @@ import pathlib
 import threading
 import typing
 
-from yolgibat import ROOT, command, commanding, forked, joining, listening, programs, serving, standard, texts
+from yolgibat import ROOT, apart, command, commanding, joining, listening, programs, serving, standard, texts
 
 BAD_WORD, NO_RECORDS = 2, 5
 PAGE = ROOT / "yolgibat/choose.html"
@@ -74,7 +74,7 @@ def bus_of(chosen: argparse.Namespace, program: str, opened: typing.TextIO) -> c
     site = commanding.Site(program, chosen.records, chosen.others, chosen.block, chosen.driver, chosen.seconds, chosen.title, expected)
     bus = commanding.Bus(site, (opened.fileno(),))
     bus.read_table()
-    if left := forked.left_of(opened):
+    if left := apart.left_of(opened):
         bus.go_on(left)
     else:
         fcntl.flock(opened, fcntl.LOCK_EX)

@@ -94,6 +94,12 @@ def interface(place: pathlib.Path) -> collections.abc.Iterator[tuple[str, bool]]
         yield "board_simulated.c, as it was packed, and is right by its self-test", ran.returncode == 0
 
 
+def lost_links(place: pathlib.Path) -> list[str]:
+    """The links of pages that lead out of what was unpacked, or to nothing."""
+    found = [(page, it) for page in sorted(place.rglob("*.md")) for it in packing.links(page)]
+    return [f"{page.relative_to(place)}: {it}" for page, it in found if not (it.is_relative_to(place.resolve()) and it.exists())]
+
+
 def check(title: str, first: bytes) -> dict[str, bool]:
     """What is right of the library's archive, and what is not."""
     checks = {}
@@ -105,7 +111,7 @@ def check(title: str, first: bytes) -> dict[str, bool]:
         checks["each file has its sum"] = ran.returncode == 0
         bad = spdx.faults(lambda name: (place / name).read_bytes(), (place / spdx.NAME).read_bytes())
         checks[f"the list of parts has the sums of its files {' '.join(bad)}".strip()] = not bad
-        lost = packing.lost_links(place)
+        lost = lost_links(place)
         checks[f"each link of {len(list(place.rglob('*.md')))} pages leads to a file in it {' '.join(lost)}".strip()] = not lost
         checks.update((f"the example is built of it by {way}, and commissions", is_so) for way, is_so in built(place))
         checks.update((f"the firmware is built of it for {name}", is_so) for name, is_so in firmware(place))

@@ -6,7 +6,7 @@ What runs are the launchers, the folders of RUNS and the programs. tools/lib/pac
 import pathlib
 import re
 
-from lib import ROOT, completions, manual_pages, packing, proving, targets
+from lib import ROOT, manual_pages, packing, proving, targets
 from lib.packing import Entry, Files
 
 LAUNCHERS = ("dali_commission", "dali_sim", "dali_view")
@@ -112,7 +112,7 @@ def folder(made: dict[str, bytes], said: str, machine: str, licences: Files) -> 
     found = {**running(made), **examples(), **manuals(), **told(said)}
     found |= {it.replace("_", "-"): Entry(leads_to=it) for it in LAUNCHERS}
     found |= {f"man/{name}": Entry(text.encode()) for name, text in manual_pages.pages().items()}
-    found |= {f"completions/{name}": Entry(text.encode()) for name, text in completions.scripts().items()}
+    found |= {f"completions/{it.name}": Entry(it.read_bytes()) for it in PACKAGED.glob("completion.*")}
     tried = f"{TRY.name} plays scripts in a browser.\n" if TRY.name in found else ""
     return found | licences | {"README": Entry(README.format(version=packing.versions()[0], machine=machine, tried=tried).encode())}
 
