@@ -14,7 +14,8 @@ use Rattle.dali_port.specs.State.{Port, Phase, Sent, After, Free, Waiting, Sendi
 use Rattle.dali_port.specs.Times.{half_bit, settling_of}
 use Rattle.dali_port.specs.Orders.{refusal_of, is_first}
 use Rattle.dali_port.specs.Frames.{driven_in, same, agreed_by, compared_by, compared, turned, begun_at, sent_beyond, sent_until}
-use Rattle.dali_port.specs.Ports.{since_edge, noted_told, read_at, has_no_power, rested, is_broken_off, broken_at, on_course, with_level, spoilt, listened_by, until_in, until, edge_in, edged, lost}
+use Rattle.dali_port.specs.Ports.{since_edge, noted_told, read_at, has_no_power, rested, is_broken_off, broken_at, on_course}
+use Rattle.dali_port.specs.Ports.{with_level, spoilt, listened_by, until_in, until, edge_in, edged, lost}
 use Rattle.dali_port.specs.Calls.{is_backwards, may_begin, is_too_late, is_drawn, timed_in, timed, same_level, begins_at, draws_until, drive_in, drive_of}
 use Rattle.dali_port.specs.Calls.{is_free}
 use Rattle.dali_port.specs.Laws.{is_busy, is_waiting}
@@ -337,7 +338,8 @@ wait_holds false gone q order now called late end is at rest may in_time by =
       subst (λ t. max t (max (q.edge + (settling_of order.priority + order.drawn)) (drawn_by q.draws)) + (40 * 417 + 50000 + 2 * late) ≤ end) (sym at)
           (start_ends _ _ late end
           (same_start called now _
-          (not_yet q.is_low (nat_le (settling_of order.priority + order.drawn) (now - q.edge)) q.draws q.edge (settling_of order.priority + order.drawn) now rest.0 refl may))
+          (not_yet q.is_low (nat_le (settling_of order.priority + order.drawn) (now - q.edge)) q.draws q.edge
+          (settling_of order.priority + order.drawn) now rest.0 refl may))
           by),
     )
 

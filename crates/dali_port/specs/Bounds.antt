@@ -1,4 +1,5 @@
-use Rattle.std.specs.Prelude.{◌≡◌, ℕ, ◌+◌, ◌*◌, ◌≤◌, max, true, false, List, [], ◌∷◌, Option, Some, None}
+use Rattle.std.specs.Prelude.{◌≡◌, ℕ, ◌+◌, ◌*◌, ◌≤◌, max, true}
+use Rattle.std.specs.Prelude.{false, List, [], ◌∷◌, Option, Some, None}
 use Rattle.dali_wire.specs.Windows.{is_idle}
 use Rattle.dali_port.specs.declared.orders.Order.{Order}
 use Rattle.dali_port.specs.State.{Port}
@@ -8,7 +9,7 @@ use Rattle.dali_port.specs.Laws.{is_waiting}
 use Rattle.dali_port.specs.Runs.{Call, Sends, Times, Turns, Loses, time_of, after}
 
 -- HOW LONG A FRAME TAKES, in µs. A bus is at rest if it is high and nothing is read on it. Then a
--- frame waits for the settling time of its priority and for what was drawn, and until no gear draws.
+-- frame waits for the settling time of its priority and what was drawn, and until no gear draws.
 abbrev pub IsAtRest : Port → Type 0
 IsAtRest p = (p.is_low ≡ false) × (is_idle p.receiver.reading ≡ true)
 

@@ -2,7 +2,7 @@
 //!
 //! These are laws over the definitions that the contracts of this crate cite. Programs don't call them.
 
-ghost use Rattle.std.specs.Prelude.{◌≡◌, ℕ, ◌+◌, ◌<◌, Bool, true, false, List};
+ghost use Rattle.std.specs.Prelude.{◌≡◌, ℕ, ◌+◌, ◌<◌, true, false, List};
 ghost use Rattle.dali_port.specs.declared.orders.Order.{Order};
 ghost use Rattle.dali_port.specs.State.{Port, Sent, Waiting, Sending};
 ghost use Rattle.dali_port.specs.Frames.{begun_at};
@@ -13,8 +13,8 @@ ghost use Rattle.dali_port.specs.Runs.{HasOneWord, BeginsBy, marks_of, marks_aft
 ghost use Rattle.dali_port.specs.Stretches.{seen_by_all, Follows, IsWhole, TellsHeard, is_listening};
 ghost use Rattle.dali_port.specs.Bounds.{IsAtRest, AreInTime, ends_by};
 
-/// Each frame that is handed in ends with exactly one word, and no word comes of no frame: in each call, and so over any
-/// run, but for the frame that is under way.
+/// Each frame that is handed in ends with exactly one word, and no word comes of no frame: in each call, and over
+/// any run, but for the frame that is under way.
 pub fn each_frame_has_one_word()
     ensures call { (p : Port) (c : Call) → HasOneWord p c }
     ensures run { (p : Port) (calls : List Call)
@@ -22,8 +22,8 @@ pub fn each_frame_has_one_word()
 {}
 
 /// Over any run from rest on a frame that waits has exactly one word once its bound in µs is past. The timer is called
-/// in time, no edge comes before the frame begins, none is lost, and no further frame is taken. Edges of others may come
-/// at any time after it began.
+/// in time, no edge comes before the frame begins, none is lost, and no further frame is taken. Others may send at any
+/// time after it began.
 pub fn each_frame_ends_in_time()
     ensures { (p : Port) (order : Order) (late : ℕ) (calls : List Call) → p.phase ≡ Waiting order → IsAtRest p
         → AreInTime late p calls → frames p calls ≡ 0 → ends_by p order late < (after_all p calls).called
