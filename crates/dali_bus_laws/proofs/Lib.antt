@@ -4,3 +4,4 @@ mod Taken
 mod Begun
 mod Two
 mod Broken
+mod Without
