@@ -14,8 +14,6 @@ TAKEN = re.compile(r"(--[\w-]+)(?: ([A-Z]+|[a-z]+(?:\|[a-z]+)+)(?=[\] ]|$))?", r
 # The launcher's lines about what each command takes, and a command with an option of the launcher.
 TAKES, MORE = re.compile(r"^  (\w+)((?: {2,}\S.*\n(?: {4,}\S.*\n)*))", re.M), re.compile(r"^  (\w+) (--[\w-]+) ", re.M)
 CHOICES = re.compile(r"\[possible values: ([^\]]+)\]")
-# The values that are files.
-FILES = ("FILE",)
 # What a COMMAND of a driver is, up to its own words.
 DRIVERS = ("adapters/daliserver", "adapters/simulated")
 EVERYWHERE = {"--help": ""}
@@ -37,7 +35,7 @@ def listed(text: str) -> dict[str, str]:
     """The options of a help text, each with its value, or its choices with strokes between."""
     found = {}
     for it in LISTED.finditer(text):
-        rest = re.split(r"\n +(?:-\w, )?--", text[it.end() :])[0]
+        rest = re.split(r"\n +(?:-\w, )?--", text[it.start() :])[0]
         choices = CHOICES.search(rest)
         found[it[1]] = choices[1].replace(", ", "|") if choices else it[2] or ""
     return found
@@ -63,68 +61,40 @@ def words(them: dict[str, str]) -> str:
     return " ".join(sorted(them))
 
 
-def cases(them: Program, what: typing.Callable[[str], str]) -> dict[str, list[str]]:
-    """The options whose values are completed alike, by what completes them."""
-    found: dict[str, list[str]] = {}
-    for options in them.options.values():
-        for option, value in options.items():
-            if value and option not in found.setdefault(what(value), []):
-                found[what(value)].append(option)
-    return found
-
-
-def bash_value(value: str) -> str:
-    """What bash completes a value with."""
-    if value in FILES:
-        return 'COMPREPLY=($(compgen -f -- "$now"))'
-    if "|" in value:
-        return f'COMPREPLY=($(compgen -W "{value.replace("|", " ")}" -- "$now"))'
-    if value == "COMMAND":
-        return f'COMPREPLY=($(compgen -W "{" ".join(DRIVERS)}" -- "$now"))'
-    return "COMPREPLY=()"
+def choices(value: str) -> list[str]:
+    """The words that a value may be, as far as they are known; none of a file."""
+    return value.split("|") if "|" in value else list(DRIVERS) if value == "COMMAND" else []
 
 
 def bash(them: Program) -> str:
     name, dashed = them.name, them.name.replace("_", "-")
-    values = "".join(f"    {'|'.join(sorted(it))})\n        {do}\n        return ;;\n" for do, it in cases(them, bash_value).items())
+    taken = {option: value for options in them.options.values() for option, value in options.items() if value}
+    values = "".join(f"    {option}) options='{' '.join(choices(value))}' ;;\n" for option, value in sorted(taken.items()))
     options = "".join(f"    {command or '*'}) options='{words(it)}' ;;\n" for command, it in [*list(them.options.items())[1:], ("", them.options[""])])
-    first = f'    [ "$COMP_CWORD" -gt 1 ] || options="{" ".join(them.commands())} $options"\n' if them.commands() else ""
     return f"""# Completes {dashed} in bash.
 _{name}() {{
-    local now=${{COMP_WORDS[COMP_CWORD]}} before=${{COMP_WORDS[COMP_CWORD-1]}} options
-    case $before in
-{values}    esac
+    local now=${{COMP_WORDS[COMP_CWORD]}} options
     case ${{COMP_WORDS[1]}} in
 {options}    esac
-{first}    COMPREPLY=($(compgen -W "$options" -- "$now"))
+    [ "$COMP_CWORD" -gt 1 ] || options="{" ".join(them.commands())} $options"
+    case ${{COMP_WORDS[COMP_CWORD-1]}} in
+{values}    esac
+    COMPREPLY=($(compgen -W "$options" -- "$now"))
     [ "${{#COMPREPLY[@]}}" -gt 0 ] || COMPREPLY=($(compgen -f -- "$now"))
 }}
 complete -o filenames -F _{name} {dashed} {name}
 """
 
 
-def zsh_value(value: str) -> str:
-    """What zsh completes a value with."""
-    if value in FILES:
-        return ":file:_files"
-    if "|" in value:
-        return f":value:({value.replace('|', ' ')})"
-    if value == "COMMAND":
-        return f":driver:({' '.join(DRIVERS)})"
-    return f":{value.lower()}:"
-
-
 def zsh_options(options: dict[str, str]) -> str:
-    them = [f"'*{it}[{it}]{zsh_value(value) if value else ''}'" for it, value in sorted(options.items())]
-    return " \\\n            ".join([*them, "'*:file:_files'"])
+    of = {it: f":value:({' '.join(choices(value))})" if choices(value) else ":file:_files" if value else "" for it, value in options.items()}
+    return " \\\n            ".join([*(f"'*{it}[{it}]{value}'" for it, value in sorted(of.items())), "'*:file:_files'"])
 
 
 def zsh(them: Program) -> str:
     name, dashed = them.name, them.name.replace("_", "-")
-    if not them.commands():
-        return f"#compdef {dashed} {name}\n_arguments \\\n            {zsh_options(them.options[''])}\n"
     listed = "\n        ".join("'" + f"{it}:{them.about.get(it, it)}".replace("'", "'\\''") + "'" for it in them.commands())
-    arms = "".join(f"        {it})\n            _arguments {zsh_options(them.options[it])} ;;\n" for it in them.commands())
+    arms = "".join(f"        {it or '*'})\n            _arguments {zsh_options(options)} ;;\n" for it, options in reversed(them.options.items()))
     return f"""#compdef {dashed} {name}
 # Completes {dashed} in zsh.
 _{name}() {{
@@ -132,28 +102,21 @@ _{name}() {{
     listed=(
         {listed}
     )
-    if (( CURRENT == 2 )); then
+    if (( CURRENT == 2 && $#listed )); then
         _describe command listed
         compadd -- {words(them.options[""])}
         return
     fi
     local command=$words[2]
-    shift words
-    (( CURRENT-- ))
+    if (( $#listed )); then
+        shift words
+        (( CURRENT-- ))
+    fi
     case $command in
 {arms}    esac
 }}
 _{name} "$@"
 """
-
-
-def fish_value(value: str) -> str:
-    """What fish completes a value with."""
-    if value in FILES:
-        return " -r -F"
-    if "|" in value:
-        return f" -x -a '{value.replace('|', ' ')}'"
-    return f" -x -a '{' '.join(DRIVERS)}'" if value == "COMMAND" else " -x"
 
 
 def fish(them: Program) -> str:
@@ -165,7 +128,8 @@ def fish(them: Program) -> str:
         for command, options in them.options.items():
             when = f" -n '__fish_seen_subcommand_from {command}'" if command else " -n __fish_use_subcommand" if them.commands() else ""
             for option, value in sorted(options.items()):
-                lines.append(f"complete -c {name}{when} -l {option[2:]}{fish_value(value) if value else ''}")
+                what = f" -x -a '{' '.join(choices(value))}'" if choices(value) else " -r -F" if value else ""
+                lines.append(f"complete -c {name}{when} -l {option[2:]}{what}")
     return f"# Completes {dashed} in fish.\n" + "\n".join(lines) + "\n"
 
 

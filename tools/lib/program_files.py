@@ -65,8 +65,8 @@ def kit_crates(made: list[proving.Crate] | None = None) -> list[str]:
 
 
 def files(folder: pathlib.Path) -> list[pathlib.Path]:
-    """The files below a folder, but not what Python makes of them."""
-    return [it for it in folder.rglob("*") if it.is_file() and "__pycache__" not in it.parts]
+    """The files below a folder, but not what Python makes of them, and no tests."""
+    return [it for it in folder.rglob("*") if it.is_file() and not {"__pycache__", "tests"} & {*it.relative_to(folder).parts}]
 
 
 def running(made: dict[str, bytes], is_installed: bool = False) -> Files:

@@ -18,5 +18,6 @@ SECTIONS
     .ARM.exidx : { *(.ARM.exidx*) }
     . = DEFINED(data_begin) ? data_begin : 0x20000000;
     .data : { *(.data .data.*) }
-    .bss (NOLOAD) : { *(.bss .bss.*) *(COMMON) }
+    .stack (NOLOAD) : { *(.bss.main_stack) }
+    .bss (NOLOAD) : { zero_begin = .; *(.bss .bss.*) *(COMMON) zero_end = .; }
 }
