@@ -5,3 +5,4 @@ mod Begun
 mod Two
 mod Broken
 mod Without
+mod Pairs
