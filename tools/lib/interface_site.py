@@ -208,6 +208,17 @@ class Site(commission_site.Place):
         rows = [GEAR.unpack_from(raw, GEAR_AT + at * GEAR.size) for at in range(self.head()[-1])]
         return [(None if it[3] == MASK else it[3] >> 1, it[0]) for it in rows]
 
+    def is_released(self) -> bool:
+        """Whether the bus comes to rest soon; that of a board that is off has no such time."""
+        until = time.monotonic() + 10
+        while self.is_on() and time.monotonic() < until:
+            with open(self.memory, "rb") as file:
+                file.seek(EDGES_AT + 4 * (self.head()[2] - 1))
+                if not file.read(1)[0] & 1:
+                    return True
+            time.sleep(0.05)
+        return not self.is_on()
+
     def trace(self) -> str:
         """The levels of the bus, as a value change dump."""
         count = self.head()[2]
