@@ -132,21 +132,13 @@ def served(make: collections.abc.Callable[[int, str], "Server"], port: int, kept
     return make(port, kept.token)
 
 
-def tell(address: str, is_opened: bool) -> None:
-    """Says where a page is served, and starts a browser with it if that is wanted."""
-    print(address, flush=True)
-    standard.say("open this address in a browser; interrupt this program when you are done")
-    if is_opened:
-        threading.Thread(target=webbrowser.open, args=(address,), daemon=True).start()
-
-
 def serve(
-    make: collections.abc.Callable[[int, str], "Server"], opened: typing.TextIO, port: int, is_opened: bool, end: collections.abc.Callable[[], None],
+    make: collections.abc.Callable[[int, str], "Server"], opened: typing.TextIO | None, port: int, is_opened: bool,
     beside: collections.abc.Callable[["Server"], object] = id,
 ) -> int:
-    """Serves until a signal comes, at an address that a file keeps; then all ends that goes on. What is served beside it begins with it. The
-    status."""
-    server, came = served(make, port, kept_of(opened)), []
+    """Serves until a signal comes, at an address that a file keeps, if there is one; then all ends that goes on. What is served beside it begins
+    with it. The status."""
+    server, came = served(make, port, kept_of(opened) if opened else Kept()), []
 
     def stop(number: int, _frame: object) -> None:
         came.append(number)
@@ -155,13 +147,10 @@ def serve(
     for number in joining.PASSED:
         if signal.getsignal(number) != signal.SIG_IGN:
             signal.signal(number, stop)
-    opened.seek(0)
-    opened.truncate()
-    print(server.address(), end="", file=opened, flush=True)
-    tell(server.address(), is_opened)
+    server.tell(opened, is_opened)
     beside(server)
     server.serve_forever()
-    end()
+    server.end()
     return 128 + came[0]
 
 
@@ -187,6 +176,22 @@ class Server(http.server.ThreadingHTTPServer):
 
     def address(self) -> str:
         return f"http://{self.hosts[0]}/{self.token}/"
+
+    def tell(self, opened: typing.TextIO | None, is_opened: bool) -> None:
+        """Says where the page is served, also in a file, and starts a browser with it if that is wanted."""
+        if opened:
+            opened.seek(0)
+            opened.truncate()
+            print(self.address(), end="", file=opened, flush=True)
+        print(self.address(), flush=True)
+        standard.say("open this address in a browser; interrupt this program when you are done")
+        if is_opened:
+            threading.Thread(target=webbrowser.open, args=(self.address(),), daemon=True).start()
+
+    def end(self) -> None:
+        """Stops what goes on, and waits for its end."""
+        if self.bus:
+            self.bus.end()
 
     def process_request(self, request: socket.socket, client_address: typing.Any) -> None:
         """Answers a request in a thread of its own. If too many are open, the oldest that is not whole yet is cut off."""

@@ -13,7 +13,8 @@ import typing
 
 import lines
 
-HERE = pathlib.Path(__file__).resolve().parent
+# The folder of the drivers.
+HERE = pathlib.Path(__file__).resolve().parents[1]
 MOST_FRAMES = 20000
 OPENING = (("A100", 0), ("A5FF", 1), ("A5FF", 2), ("A700", 1), ("A700", 2))
 
@@ -175,8 +176,8 @@ def received(client: socket.socket, count: int) -> bytes:
 
 def record(file: str) -> None:
     """Writes a commissioning of two gear, as a stand-in is spoken to."""
-    wrote = ["# A commissioning of two gear by the controller of adapters/testing.py, over adapters/stand_in."]
-    with tempfile.TemporaryDirectory() as folder, Driver("stand_in", 0, f"{folder}/site", "--gear", 2, "--seed", 1) as server:
+    wrote = ["# A commissioning of two gear by the controller of adapters/tests/testing.py, over adapters/tests/stand_in."]
+    with tempfile.TemporaryDirectory() as folder, Driver("tests/stand_in", 0, f"{folder}/site", "--gear", 2, "--seed", 1) as server:
         with socket.create_connection(("127.0.0.1", int(server.line()))) as client:
 
             def put(frame, asked, _priority, _half):

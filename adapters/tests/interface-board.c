@@ -1,4 +1,4 @@
-/* The board of examples/interface as a process of this computer, for adapters/test-serial: its serial port is standard input and output, and
+/* The board of examples/interface as a process of this computer, for adapters/tests/test-serial: its serial port is standard input and output, and
  * on standard error it says what it does with the bus. Its gear take frames whole, without edges and without the library for C.
  *
  * BOARD_GEAR says how many gear there are, BOARD_FRAME how many us a frame takes, BOARD_BURST how many bytes come at once, and BOARD_WORD what

@@ -1,6 +1,6 @@
-/* Puts adapters/spi-bus in the place of a SPI device, for the program before which it is loaded (LD_PRELOAD).
+/* Puts adapters/tests/spi-bus in the place of a SPI device, for the program before which it is loaded (LD_PRELOAD).
  *
- * SPI_BUS_DEVICE is the path that is taken for the device, SPI_BUS_SOCKET the number of a socket to adapters/spi-bus. Each ioctl of spidev
+ * SPI_BUS_DEVICE is the path that is taken for the device, SPI_BUS_SOCKET the number of a socket to adapters/tests/spi-bus. Each ioctl of spidev
  * on that device goes there and comes back. As long as it is open CLOCK_MONOTONIC is the time of the simulated bus; it goes on by a
  * transfer, and by the time that the stand-in gives the program for its next line when one is read of standard input. A real-time
  * priority would slow the machine down, so it is given without effect, or refused if SPI_BUS_PRIORITY is there. */
