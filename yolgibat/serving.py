@@ -33,7 +33,8 @@ LOOKS = 0.2
 KEPT = re.compile(r"http://127\.0\.0\.1:([0-9]{1,5})/([A-Za-z0-9_-]{32})/")
 # Who may ask: a browser says where a request comes from.
 OWN = ("same-origin", "none")
-# What is put in a page: what all pages have in common, its language, and its texts as JSON.
+# What stands around all pages, and what is put in: the page, what all have in common, its language, and its texts as JSON.
+FRAME, OWN_PART = ROOT / "yolgibat/frame.html", "/*PAGE*/"
 COMMON = {"/*STYLE*/": ROOT / "yolgibat/page.css", "/*COMMON*/": ROOT / "yolgibat/page.js"}
 LANGUAGE, TEXTS = '<html lang="en">', "/*TEXTS*/"
 
@@ -60,7 +61,7 @@ def policy(page: str) -> str:
 
 def source(file: pathlib.Path) -> str:
     """A page in no language."""
-    text = file.read_text(encoding="utf-8")
+    text = FRAME.read_text(encoding="utf-8").replace(OWN_PART, file.read_text(encoding="utf-8"), 1)
     for mark, common in COMMON.items():
         text = text.replace(mark, common.read_text(encoding="utf-8"), 1)
     return text
