@@ -91,8 +91,6 @@ class Bus(commanding.Bus):
 
 
 class Server(serving.Server):
-    """The server of a building."""
-
     def __init__(self, name: str, them: list[Bus], port: int, token: str) -> None:
         self.name, self.buses, self.way, page = name, them, them[0].way, serving.source(PAGE)
         self.building_pages = {it: serving.filled(page, it) for it in texts.languages()}

@@ -54,8 +54,6 @@ class Server(serving.Server):
 
 
 class Handler(serving.Handler):
-    """One request."""
-
     def answer(self, known: dict[str, collections.abc.Callable[[], None]]) -> None:
         super().answer(known if self.bus else {"GET": {"": self.show_choice}, "POST": {"choose": self.choose}}[self.command])
 

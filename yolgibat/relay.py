@@ -82,7 +82,6 @@ class Relay:
         return is_stopped or self.fault is not None or not self.is_awaited() or bool(self.told)
 
     def is_awaited(self) -> bool:
-        """Whether a frame waits for its answer."""
         return self.until < math.inf
 
     def turn(self) -> None:

@@ -150,8 +150,6 @@ def serve(make: collections.abc.Callable[[int, str], "Server"], opened: typing.T
 
 
 class Server(http.server.ThreadingHTTPServer):
-    """The server of one page."""
-
     daemon_threads, request_queue_size = True, 64
 
     def __init__(self, bus: commanding.Bus | None, port: int, token: str = "", handler: type["Handler"] | None = None) -> None:
@@ -218,13 +216,10 @@ class Server(http.server.ThreadingHTTPServer):
 
 
 class Handler(http.server.BaseHTTPRequestHandler):
-    """One request."""
-
     timeout, server_version, sys_version = PATIENCE, "page", ""
 
     @property
     def bus(self) -> commanding.Bus:
-        """The bus that is asked about."""
         return self.server.bus
 
     def log_message(self, *_: typing.Any) -> None:
@@ -272,7 +267,6 @@ class Handler(http.server.BaseHTTPRequestHandler):
         return what
 
     def body(self) -> dict[str, typing.Any]:
-        """The object that a request brings."""
         lengths = self.headers.get_all("Content-Length", [])
         if len(lengths) != 1 or not re.fullmatch(r"[0-9]{1,6}", lengths[0]) or "Transfer-Encoding" in self.headers:
             raise Refused(411, "one length is wanted")

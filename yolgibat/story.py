@@ -179,7 +179,6 @@ class Reader:
         return line
 
     def parsed(self, raw: bytes) -> Line:
-        """The object that a line is."""
         try:
             line = json.loads(raw.decode("utf-8"), parse_constant=self.refuse)
         except UnicodeDecodeError:
