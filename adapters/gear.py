@@ -1,7 +1,6 @@
 """Simulated control gear on a bus. They behave as docs/RULES.md says; a file keeps what gear keep over a loss of power.
 
-Six commands more are theirs, which the program never sends (IEC 62386-102:2014, from memory): DTR0, SET SHORT ADDRESS (DTR0) and RESET,
-by which a tool brings used gear back; DTR1 and READ MEMORY LOCATION (DTR1, DTR0), by which memory bank 0 is read; QUERY CONTROL GEAR PRESENT.
+docs/ADAPTERS.md has the commands that they know beside, from memory of IEC 62386-102:2014.
 """
 
 import argparse

@@ -73,6 +73,12 @@ def filled(page: str, language: str) -> str:
     return page.replace(LANGUAGE, f'<html lang="{language}">', 1).replace(TEXTS, words, 1)
 
 
+def prepared(file: pathlib.Path) -> tuple[dict[str, str], str]:
+    """A page in each language, and what it may do."""
+    page = source(file)
+    return {it: filled(page, it) for it in texts.languages()}, policy(page)
+
+
 class Kept(typing.NamedTuple):
     """What is kept of the address of the page before, if anything."""
 
@@ -156,9 +162,8 @@ class Server(http.server.ThreadingHTTPServer):
         self.bus, self.token, self.lanes = bus, token or secrets.token_urlsafe(24), threading.BoundedSemaphore(LANES)
         # The connections whose request is not whole yet, the oldest first.
         self.half_open, self.lock = {}, threading.Lock()
-        page = source(PAGE)
-        self.pages = {it: filled(page, it) for it in texts.languages()}
-        self.policy, self.viewer_policy = policy(page), policy(story.VIEWER.read_text(encoding="utf-8"))
+        self.pages, self.policy = prepared(PAGE)
+        self.viewer_policy = policy(story.VIEWER.read_text(encoding="utf-8"))
         super().__init__((LOOPBACK, port), handler or Handler)
         self.hosts = [f"{it}:{self.server_address[1]}" for it in (LOOPBACK, "localhost")]
 
