@@ -34,7 +34,6 @@ class Process(subprocess.Popen):
 
 
 def join(words: str) -> typing.NoReturn:
-    """What the process does."""
     program, driver, seconds, is_gentle, *story = json.loads(words)
     sys.exit(joining.join(program, driver, seconds, is_gentle, {"story": os.fdopen(it, "wb", buffering=0) for it in story}))
 

@@ -410,7 +410,6 @@ class Bus:
             os.close(story)
 
     def walking(self) -> "walking.Walk | None":
-        """The walk that goes on."""
         if self.walk and not self.walk.is_on:
             self.walked = {"done": len(self.walk.done), "left": len(self.walk.left)}
             self.walk, self.turns = None, self.walk.turn + 1
@@ -447,7 +446,6 @@ class Bus:
             return None
 
     def rest(self) -> None:
-        """Nothing goes on any more."""
         self.idle.set()
 
     def take(self, command: Command, old: str | None) -> None:
@@ -515,7 +513,6 @@ class Bus:
         self.silent, self.missing, self.there = self.silent - asked | missed, self.missing - (asked - missed), self.there - missed
 
     def stop(self) -> None:
-        """Stops what goes on, and the walk."""
         with self.lock:
             if self.walking():
                 self.walk.end()
@@ -571,7 +568,6 @@ class Bus:
         return found | {it: ("given-now", random) for it, random in told.given.items()} | {it: ("unclear-now", None) for it in told.unclear}
 
     def state(self) -> dict[str, typing.Any]:
-        """All that a page shows."""
         with self.lock:
             self.refresh()
             trouble, them, spare = self.trouble, [], []

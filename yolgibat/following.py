@@ -47,7 +47,6 @@ class Follower:
         self.search, self.programmed, self.first, self.asks = ["FF"] * 3, None, None, False
 
     def take(self, lines: bytes) -> None:
-        """Takes more of a story, whole lines."""
         self.bytes += len(lines)
         for line in lines.splitlines():
             self.take_event(json.loads(line))

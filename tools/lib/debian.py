@@ -26,8 +26,6 @@ PLACES = {
     "completion.zsh": "usr/share/zsh/vendor-completions/_yolgibat",
     "overrides": "usr/share/lintian/overrides/yolgibat",
 }
-# The same, for the page on which scripts are played, if that was made.
-PAGE = {"doc-base": "usr/share/doc-base/yolgibat.yolgibat"}
 SCRIPTS = ("postinst", "prerm", "postrm")
 # A folder for the settings of a site, which is empty.
 SETTINGS = "etc/yolgibat"
@@ -85,8 +83,7 @@ def files(made: dict[str, bytes], said: str) -> Files:
         found[place.format("yolgibat")] = Entry((program_files.PACKAGED / f"completion.{shell}").read_bytes())
         leads = pathlib.PurePath(place.format("yolgibat")).name
         found |= {place.format(name): Entry(leads_to=leads) for it in program_files.LAUNCHERS for name in (it, it.replace("_", "-"))}
-    places = PLACES | (PAGE if program_files.TRY.name in read else {})
-    return found | {place: Entry((program_files.PACKAGED / name).read_bytes(), name == "nightly") for name, place in places.items()}
+    return found | {place: Entry((program_files.PACKAGED / name).read_bytes(), name == "nightly") for name, place in PLACES.items()}
 
 
 def libc(made: dict[str, bytes]) -> str:

@@ -42,7 +42,6 @@ def moment() -> int:
 
 
 def is_changed() -> bool:
-    """Whether files differ from the commit."""
     return bool(git("status", "--porcelain"))
 
 

@@ -35,7 +35,6 @@ The first gives 20 simulated gear their addresses. docs/INSTALLER.md is the manu
 
 
 def programs() -> list[proving.Crate]:
-    """The programs of crates/."""
     return [it for it in proving.workspace().values() if it.is_program and it.folder.parent == proving.CRATES]
 
 
