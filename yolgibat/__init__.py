@@ -2,7 +2,7 @@
 
 command                            the command line; it loads what a call wants
 programs, launch, call_words, helps    where a program is, and what it takes by its help
-joining, relay, telling, forked    a program and its driver, and what is told of their frames
+joining, relay, telling, apart    a program and its driver, and what is told of their frames
 page, serving, commanding, following, walking, texts    the page of a bus, and its commands
 building, building_page            many buses
 places, marks, serials, terminal   what is kept beside the records, and asked for on a terminal

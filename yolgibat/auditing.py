@@ -1,10 +1,4 @@
-"""Judges a capture of a bus, with the words of `./dali_sim audit`, which calls this.
-
-The program dali_audit_program reads the capture as its standard input. For `--bench FILE` it is run once more, and FILE gets its script; for
-`--story FILE` twice more, and FILE gets the story of what it writes, with each finding behind its event. FILE is made anew if it is empty, a
-story or a bench. Exit statuses: those of the program; 2 for a bad word, or a FILE that is something else; 3 if a file cannot be read or
-written; 126, 127 and 130 if the program is not there.
-"""
+"""Judges a capture of a bus, with the words of `./dali_sim audit`, as docs/FORMAT.md says. The program reads it once for each thing that is told."""
 
 import json
 import os

@@ -1,22 +1,6 @@
-"""Does one thing on many buses of a building side by side, which a file names (docs/BUILDING.md says how):
+"""Does one thing on many buses of a building side by side, which a file names: its help and docs/BUILDING.md say what.
 
-    ./dali_commission building run|check|clear|table --building FILE [--at-once N] [--json] [--csv] [--since FILE] [--yes] [BUS..]
-    ./dali_commission building mend --building FILE [--at-once N] [--json] [--missing BUS:ADDRESS].. [BUS..]
-    ./dali_commission building replace BUS ADDRESS --building FILE [--missing ADDRESS].. [--json]
-    ./dali_commission building page --building FILE [--port N] [--open]
-
-Each bus is done by dali_commission over its driver, as processes of their own. BUS is the name of one, or of a part of the building in
-which several lie; all are done if none is said. Relative paths in the file, and in its drivers, are from the folder of the file.
-
-It says on standard error how far each is, and what it came to. `table` writes the luminaires of all with their places, `check --since`
-what has changed since FILE was written, which is made anew then; with --json everything is one object. A bus that fails stops no other.
-A bus at which a page is served, or another command of a building goes on, is left as it is. On a terminal `clear` asks for a word and the
-number of its buses, which are typed; else it wants --yes. `page` serves a page of the building, and
-below it one of each bus, until it is interrupted.
-
-Exit statuses: the greatest of all buses, as dali_commission has them; 2 for a bad word or a file that is wrong; 5 also where a bus is
-used, or FILE cannot be had; 126, 127 and 130 if the program is not there; 128 and the number of the signal that ended it.
-"""
+The status is the greatest of all buses; 5 also if a bus is used, or the file of --since cannot be had."""
 
 import argparse
 import collections
@@ -537,13 +521,7 @@ def serve(chosen: argparse.Namespace, building: Building, program: str) -> int:
     if not opened:
         return 0
     them = building_page.made(building, program)
-    servers = []
-
-    def make(port, token):
-        servers.append(building_page.Server(building.name, them, port, token))
-        return servers[-1]
-
-    return serving.serve(make, opened, chosen.port, chosen.open, lambda: servers[-1].end())
+    return serving.serve(lambda port, token: building_page.Server(building.name, them, port, token), opened, chosen.port, chosen.open)
 
 
 def main(chosen: argparse.Namespace) -> int:

@@ -1,15 +1,10 @@
-"""The command line of the launchers. What is the front's own is taken here and nowhere else; all else is the program's.
+"""The command line of the launchers: what is the front's own is taken here and nowhere else, all else is the program's.
 
-COMMAND of --driver is split into words as a shell does it; a relative path in it is looked for in the current folder, and then where the
-launchers are. With --story and --trace FILE is made anew if it is empty, a story or a trace, and none of the files that the call works with.
-What is said over a driver is in the language of --lang, or else of the terminal, as far as it has a translation.
-
-Exit statuses: those of the program, and of what is done in its place; 2 for a bad word; 5 where a file of the records, or beside them, cannot
-be had; 127 if a driver cannot be started; 126, 127 and 130 if the program is not there; 130 if it is interrupted.
-"""
+docs/FORMAT.md has the exit statuses, docs/ADAPTERS.md what a COMMAND of a driver is."""
 
 import argparse
 import contextlib
+import ipaddress
 import os
 import pathlib
 import re
@@ -111,6 +106,14 @@ def port_of(word: str) -> int:
     return int(word)
 
 
+def host_of(word: str) -> str:
+    """An address of this computer on a network, of IPv4."""
+    try:
+        return str(ipaddress.IPv4Address(word))
+    except ValueError as why:
+        raise argparse.ArgumentTypeError(f"'{word}' is no address such as 192.168.1.20") from why
+
+
 def count_of(word: str) -> int:
     """How many buses at once."""
     if not re.fullmatch(r"[1-9][0-9]{0,3}", word):
@@ -169,6 +172,7 @@ def of_page(words: list[str]) -> argparse.Namespace:
     options.add_argument("--others", action="append", type=block_of, default=[])
     options.add_argument("--port", type=port_of, default=0)
     options.add_argument("--open", action="store_true")
+    options.add_argument("--listen", type=host_of)
     options.add_argument(EXPECT, action="append")
     options.add_argument("--program")
     options.add_argument("block", nargs="?", type=block_of, default="0-63")
@@ -448,25 +452,18 @@ def draw(kind: str, words: list[str]) -> int:
 
 def of_audit(words: list[str]) -> tuple[str, dict[str, str], list[str]]:
     """The capture of an audit, the files of `--bench` and `--story`, and the words of the program."""
-    found, files, rest, left = None, {}, [], list(words)
-    while left:
-        word = left.pop(0)
-        if word in ("--bench", "--story", "--wire"):
-            if not left or not left[0]:
-                raise BadWord(f"`{word}` takes a {'name' if word == '--wire' else 'file'}")
-            value = left.pop(0)
-            files, rest = (files, [*rest, word, value]) if word == "--wire" else ({**files, word: value}, rest)
-        elif word.startswith("--"):
-            rest.append(word)
-        elif found is not None:
-            raise BadWord(f"`audit` takes one capture, and not '{word}' too")
-        else:
-            found = word
-    if not found:
+    rest, given = parted(words, "--bench", "--story", "--wire")
+    if lacks := next((it for it, values in given.items() if "" in values), None):
+        raise BadWord(f"`{lacks}` takes a {'name' if lacks == '--wire' else 'file'}")
+    captures, wires = [it for it in rest if not it.startswith("--")], [word for it in given.pop("--wire") for word in ("--wire", it)]
+    files = {name: values[-1] for name, values in given.items() if values}
+    if not captures:
         raise BadWord("`audit` takes a capture: ./dali_sim audit CAPTURE")
-    if found == "-" and files:
+    if captures[1:]:
+        raise BadWord(f"`audit` takes one capture, and not '{captures[1]}' too")
+    if captures == ["-"] and files:
         raise BadWord(f"with `{next(iter(files))}` the capture is a file")
-    return found, files, rest
+    return captures[0], files, [*wires, *(it for it in rest if it.startswith("--"))]
 
 
 LAUNCHERS = {COMMISSION: commission, SIMULATE: simulate, VIEW: view}

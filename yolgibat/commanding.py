@@ -10,7 +10,7 @@ import threading
 import time
 import typing
 
-from yolgibat import ROOT, following, forked, joining, marks, places, serials, telling, texts
+from yolgibat import ROOT, apart, following, joining, marks, places, serials, telling, texts
 
 if typing.TYPE_CHECKING:
     from yolgibat import walking
@@ -176,13 +176,13 @@ class Command:
 
     def __init__(
         self, site: Site, number: int, name: str, address: int | None, words: list[str], kept: tuple[int, ...],
-        before: "tuple[Command, ...]" = (), left: forked.Left | None = None,
+        before: "tuple[Command, ...]" = (), left: apart.Left | None = None,
     ) -> None:
         self.number, self.name, self.address, self.said, self.before, self.begun = number, name, address, [], before, left.begun if left else time.time()
         self.status = self.ended = None
         self.is_stopped, self.report, self.lock, self.missing = False, {}, threading.Lock(), missing_in(words)
         self.story, self.follower = left.story if left else os.memfd_create("story"), following.Follower()
-        self.process = left or forked.Process([[site.program, *words], site.driver, site.seconds, name == "identify"], (self.story, *kept))
+        self.process = left or apart.Process([[site.program, *words], site.driver, site.seconds, name == "identify"], (self.story, *kept))
 
     def follow(self) -> None:
         """Hears what it says until it has ended."""
@@ -194,7 +194,7 @@ class Command:
         self.process.wait()
         self.ended = time.time()
         self.status = self.process.returncode if self.process.returncode >= 0 else STOPPED - self.process.returncode
-        if isinstance(self.process, forked.Left):
+        if isinstance(self.process, apart.Left):
             # How a run stands is all that its story tells of its end.
             self.status = next((status for status, name in telling.STANDS.items() if [name] == self.followed().stands), STOPPED)
 
@@ -388,7 +388,7 @@ class Bus:
         threading.Thread(target=self.follow, args=(self.command, old), daemon=True).start()
         return self.command
 
-    def go_on(self, left: forked.Left) -> None:
+    def go_on(self, left: apart.Left) -> None:
         """Follows a command that an earlier page began."""
         address = next((int(it) for it in left.words if it.isdigit()), None) if left.words[0] != "run" else None
         self.command = Command(self.site, 0, left.words[0], address, left.words, (), left=left)
@@ -596,6 +596,10 @@ class Bus:
                 "walk": walk.state() if walk else None, "walked": self.walked, "onward": None, "next": next_step,
             }
 
+    def mends(self) -> bool:
+        """Whether a mending has something to do."""
+        return bool(self.left_alone) or any(what in MENDS for what, _ in self.strangers.values())
+
     def next_step(self, unfinished: int | None) -> dict[str, typing.Any] | None:
         """What is to be done next, with its short address if it has one; or None, if the page does not know."""
         command, status = self.command, self.command and self.command.outcome()
@@ -603,7 +607,7 @@ class Bus:
             return {"command": "replace", "address": unfinished}
         if command and not self.walked and command.name in IN_TURN and (status in AGAIN or status >= STOPPED):
             return {"command": command.name, "address": command.address}
-        if self.left_alone or any(what in MENDS for what, _ in self.strangers.values()):
+        if self.mends():
             return {"command": "mend", "address": None}
         gone = [it["address"] for it in self.table if (it["address"], it["random"]) in self.missing]
         if len(gone) == 1:

@@ -1,10 +1,4 @@
-"""Draws a run as a page for a browser, or as a value change dump of its bus: what `./dali_view`, `./dali_sim view` and `trace` do.
-
-A script is read from standard input; the program dali_view plays it, and tells its story, which is drawn. A story in a file needs no program.
-What is drawn is written to standard output, whole or not at all.
-Exit statuses: those of the program (0, 1 and 3); 1 also for a story that is none, 3 also if a story cannot be read or the output cannot be
-written; 126, 127 and 130 if the program is not there.
-"""
+"""Draws a run as a page for a browser, or as a value change dump of its bus: what `./dali_view`, `./dali_sim view` and `trace` do."""
 
 import os
 import subprocess

@@ -2,7 +2,6 @@
 and how long it still takes."""
 
 import json
-import os
 import re
 import threading
 import time

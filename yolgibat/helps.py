@@ -9,15 +9,15 @@ from yolgibat import ROOT
 HELP = ROOT / "yolgibat/help"
 # How many columns a text has at most.
 WIDTH = 100
-# What the program says of its shorter help, which has the same words; a line in two parts, or its blanks; and an option of a list of them.
-SUMMARY, PARTS, OPTION = " (see a summary with '-h')", re.compile(r" *(?:\S+(?: \S+)*  +(?=\S))?"), re.compile(r"^ +(?:-\w, )?(--[\w-]+)", re.M)
+# A line in two parts, or its blanks; and an option of a list of them.
+PARTS, OPTION = re.compile(r" *(?:\S+(?: \S+)*  +(?=\S))?"), re.compile(r"^ +(?:-\w, )?(--[\w-]+)", re.M)
 # A text that goes on in the next line, by its indent: prose, and what stands right of something.
 GOES_ON = (0, *range(8, WIDTH))
 
 
 def text_of(*names: str) -> str:
     """These texts, with what the launcher takes more of the command that the first one is about."""
-    text = "".join((HELP / f"{it}.txt").read_text() for it in names).replace(SUMMARY, "")
+    text = "".join((HELP / f"{it}.txt").read_text() for it in names)
     program, _, command = names[0].partition("-")
     own = HELP / f"{program}-launcher.txt"
     return filled(text + more(text, own.read_text(), command) if command and own.is_file() else text, width())

@@ -1,35 +1,21 @@
-"""Joins a program and its driver: starts both, passes lines and signals on, and ends the driver.
+"""Joins a program and its driver: starts both, passes lines and signals on, and ends the driver, as docs/ADAPTERS.md says.
 
-Each line of the program that begins with `put ` is passed to the driver, and the driver's answer to the program (docs/ADAPTERS.md); every
-other line of the program goes to standard output. Their standard error is left alone, but for what a view of the program shows in its place.
-
-A driver is at fault if it takes too long for an answer, writes a line that was not asked for, or ends before it has answered. That is said.
-The program sees the end of its input then. What a driver answers the program judges.
-
-SIGTERM, SIGHUP and SIGINT are passed on to the program. Gently, the first of them waits for the answer that is awaited, and then ends the
-program's input; it is passed on after two seconds in which the program did not end, and so is a second one that is not the same within 0.3
-seconds. What the program still puts is passed to the driver. That its input has ended is not passed on.
-
-When the program has ended, the driver sees the end of its input; after two seconds it is terminated, after two more killed.
-
-Exit statuses: that of the program, 128 and the number of the signal where one ended it, or asked it to end gently; 4 if the driver is at
-fault; 3 if standard output cannot be written and the program ended with 0; 127 if one of both cannot be started.
-"""
+Their standard error is left alone, but for what a view of the program shows in its place. A signal is passed on to the program. Gently, the
+first one waits for the answer that is awaited, and then ends the program's input; it is passed on after two seconds in which the program did
+not end, and so is a second one that is not the same within 0.3 seconds."""
 
 import contextlib
-import json
 import math
 import os
 import re
 import signal
 import subprocess
-import sys
 import threading
 import time
 import types
 import typing
 
-from yolgibat import ROOT, relay, telling
+from yolgibat import relay, telling
 from yolgibat.standard import UNWRITTEN, say
 
 if typing.TYPE_CHECKING:
@@ -47,8 +33,6 @@ ANSWERS = 10
 AT_FAULT, NOT_STARTED = 4, 127
 # What a program says if its input ends, as it does when a signal asks for an end in order.
 INPUT_ENDED = re.compile(rb"error: line \d+ of the driver: end of input\n?")
-# A process that joins: behind it stand the folder of this package, and what `join` takes as JSON.
-ALONE = "import json, sys; sys.path[0] = sys.argv[1]; from yolgibat import joining; sys.exit(joining.join(*json.loads(sys.argv[2])))"
 
 
 class Signals:
@@ -169,11 +153,6 @@ def say_end(title: str, driver: subprocess.Popen[bytes], fault: relay.Fault | No
         say(f"{title}: the driver closed its standard input or output {fault}")
     elif fault:
         say(f"{title}: {fault}")
-
-
-def alone(program: list[str], driver: list[str], seconds: float, is_gentle: bool) -> list[str]:
-    """The words of a process of its own that joins these two."""
-    return [sys.executable, "-S", "-c", ALONE, str(ROOT), json.dumps([program, driver, seconds, is_gentle])]
 
 
 def join(

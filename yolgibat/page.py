@@ -1,110 +1,102 @@
-"""Serves one page for a bus on this computer alone, by which an installer gives addresses and writes down where luminaires hang:
+"""Serves one page for a bus on this computer alone, by which an installer gives addresses and writes down where luminaires hang: its help and
+docs/INSTALLER.md say what it does.
 
-    ./dali_commission page --records FILE [--records FILE].. [--others BLOCK].. --driver COMMAND [--driver-timeout SECONDS]
-                           [--port N] [--open] [BLOCK]
-    ./dali_commission page --ask [--port N] [--open]
-
-It writes the address of the page, which has a token, and serves until it is interrupted. With --open a browser is started with
-it. With --ask the page asks for the file of the records, the driver and the block. It listens on 127.0.0.1. A request without the token, from another origin or with a foreign Host is refused. What the page asks for is done by dali_commission
-itself: run, check, identify, table and replace, one at a time. A run goes on when the page is closed; it ends with this program.
-Where the program was killed, a further one follows the command that it began, by its story, and may stop it.
-
-The places of the luminaires are kept beside the first file of the records: those of site.db in site.names.json, by random
-address. site.db.page keeps the address of the page, for the user alone: the next page has the same token, and the same port, if
-no other is said and nothing else has it. If others may read that file, or it is removed, the next page has another token.
-
-Exit statuses: 0 where a page is served over these records already, whose address is written; 2 for a bad word; 5 where the folder
-of the records cannot be written; 126, 127 and 130 if the program is not there; 128 and the number of the signal that ended it.
-"""
+The status is 0 if a page is served over these records already, whose address is written; 5 if the folder of the records cannot be written."""
 
 import argparse
 import collections.abc
 import fcntl
+import functools
 import json
 import os
 import pathlib
 import threading
 import typing
 
-from yolgibat import ROOT, command, commanding, forked, joining, programs, serving, standard, texts
+from yolgibat import ROOT, apart, command, commanding, joining, listening, programs, serving, standard, texts
 
 BAD_WORD, NO_RECORDS = 2, 5
 PAGE = ROOT / "yolgibat/choose.html"
 ASKED = ("records", "driver", "block")
 
 
-# The page that asks for the file of the records and for the driver, before the page of the bus is served in its place: at the same port, under
-# the address that the file keeps, or else the same one.
-
-
 class Server(serving.Server):
-    """The server of that page. `read` makes of words what the command line asks for. What was chosen stands in `chosen`, with the file that
-    keeps the address, which is open."""
+    """The server of a page that asks for the file of the records, the driver and the block, until they are chosen: then it is that of the bus."""
 
-    def __init__(self, port: int, read: collections.abc.Callable[[list[str]], typing.Any]) -> None:
+    def __init__(self, program: str, port: int, token: str) -> None:
         page = serving.source(PAGE)
-        self.read, self.chosen, self.opened, self.choice = read, None, None, threading.Lock()
+        self.program, self.choice = program, threading.Lock()
         self.choose_pages = {it: serving.filled(page, it) for it in texts.languages()}
         self.choose_policy = serving.policy(page)
-        super().__init__(None, port, "", Handler)
+        super().__init__(None, port, token, Handler)
 
-    def choose(self, asked: dict[str, typing.Any]) -> str:
-        """Takes what is asked for, and ends this page. The token of the next one."""
+    def choose(self, asked: dict[str, typing.Any]) -> None:
+        """Takes what is asked for. The page of the bus has the token that the file of its address keeps, if it keeps one."""
         if not all(isinstance(asked.get(it), str) and asked[it].strip() for it in ASKED):
             raise commanding.Bad("a file, a driver and a block are wanted")
         words = ["--records", os.path.expanduser(asked["records"].strip()), "--driver", asked["driver"], asked["block"].strip()]
         try:
-            chosen = self.read(words)
+            chosen = command.of_page(words)
         except command.BadWord as why:
             raise commanding.Bad(str(why)) from why
         if not programs.can_start("dali_commission", chosen.driver):
             raise commanding.Bad(f"the driver '{chosen.driver[0]}' cannot be started: it is no program that can be run")
         with self.choice:
-            if self.chosen:
+            if self.bus:
                 raise commanding.Bad("a file and a driver were chosen already")
-            self.opened = serving.locked(pathlib.Path(f"{chosen.records[0]}.page"))
-            if not self.opened:
+            opened = serving.locked(pathlib.Path(f"{chosen.records[0]}.page"))
+            if not opened:
                 raise commanding.Bad("a page is served over these records already")
-            self.chosen, chosen.port = chosen, self.server_address[1]
-        token = serving.kept_of(self.opened).token or self.token
-        self.opened.seek(0)
-        self.opened.truncate()
-        print(f"http://{self.hosts[0]}/{token}/", end="", file=self.opened, flush=True)
-        threading.Thread(target=self.shutdown).start()
-        return token
+            standard.say(f"the records are in {os.path.abspath(chosen.records[0])}")
+            bus = bus_of(chosen, self.program, opened)
+            self.token = serving.kept_of(opened).token or self.token
+            self.tell(opened, False)
+            self.bus = bus
 
 
 class Handler(serving.Handler):
     """One request."""
 
     def answer(self, known: dict[str, collections.abc.Callable[[], None]]) -> None:
-        super().answer({"GET": {"": self.show_choice}, "POST": {"choose": self.choose}}[self.command])
+        super().answer(known if self.bus else {"GET": {"": self.show_choice}, "POST": {"choose": self.choose}}[self.command])
 
     def show_choice(self) -> None:
         self.write(200, "text/html", self.server.choose_pages[self.language()], policy=self.server.choose_policy)
 
     def choose(self) -> None:
-        self.write(200, "application/json", json.dumps({"token": self.server.choose(self.body())}))
+        self.server.choose(self.body())
+        self.write(200, "application/json", json.dumps({"token": self.server.token}))
 
 
-def chosen(port: int, is_opened: bool, read: collections.abc.Callable[[list[str]], typing.Any]) -> tuple[typing.Any, typing.TextIO]:
-    """Serves the page until a file and a driver are chosen, and says which."""
-    with Server(port, read) as server:
-        serving.tell(server.address(), is_opened)
-        server.serve_forever()
-    standard.say(f"the records are in {os.path.abspath(server.chosen.records[0])}")
-    return server.chosen, server.opened
+def bus_of(chosen: argparse.Namespace, program: str, opened: typing.TextIO) -> commanding.Bus:
+    """The bus of a page, with the command that an earlier page has left."""
+    expected = command.expected_of(chosen.expect)
+    site = commanding.Site(program, chosen.records, chosen.others, chosen.block, chosen.driver, chosen.seconds, chosen.title, expected)
+    bus = commanding.Bus(site, (opened.fileno(),))
+    bus.read_table()
+    if left := apart.left_of(opened):
+        bus.go_on(left)
+    else:
+        fcntl.flock(opened, fcntl.LOCK_EX)
+    return bus
 
 
-# The page of a bus.
+def serve(make: collections.abc.Callable[[int, str], serving.Server], opened: typing.TextIO | None, chosen: argparse.Namespace) -> int:
+    host = getattr(chosen, "listen", None)
+    try:
+        return serving.serve(make, opened, chosen.port, chosen.open, functools.partial(listening.listen, host=host) if host else id)
+    except OSError as why:
+        standard.say(f"error: the page cannot be served: {why.strerror}")
+        return BAD_WORD
 
 
 def ask(asked: argparse.Namespace) -> int:
     """Serves a page that asks for the file and the driver, and then that of the bus."""
-    return main(*chosen(asked.port, asked.open, command.of_page))
+    program, status = programs.commission(None)
+    return status or serve(lambda port, token: Server(program, port, token), None, asked)
 
 
-def main(chosen: argparse.Namespace, opened: typing.TextIO | None = None) -> int:
+def main(chosen: argparse.Namespace) -> int:
     if not programs.can_start("dali_commission", chosen.driver):
         return joining.NOT_STARTED
     program, status = programs.commission(chosen.program)
@@ -112,21 +104,11 @@ def main(chosen: argparse.Namespace, opened: typing.TextIO | None = None) -> int
         return status
     file = pathlib.Path(f"{chosen.records[0]}.page")
     try:
-        opened = opened or serving.locked(file)
+        opened = serving.locked(file)
     except OSError as why:
         standard.say(f"error: {file}: {why.strerror}")
         return NO_RECORDS
     if not opened:
         return 0
-    site = commanding.Site(program, chosen.records, chosen.others, chosen.block, chosen.driver, chosen.seconds, chosen.title, command.expected_of(chosen.expect))
-    bus = commanding.Bus(site, (opened.fileno(),))
-    bus.read_table()
-    if left := forked.left_of(opened):
-        bus.go_on(left)
-    else:
-        fcntl.flock(opened, fcntl.LOCK_EX)
-    try:
-        return serving.serve(lambda port, token: serving.Server(bus, port, token), opened, chosen.port, chosen.open, bus.end)
-    except OSError as why:
-        standard.say(f"error: the page cannot be served: {why.strerror}")
-        return BAD_WORD
+    bus = bus_of(chosen, program, opened)
+    return serve(lambda port, token: serving.Server(bus, port, token), opened, chosen)

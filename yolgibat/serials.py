@@ -1,18 +1,11 @@
-"""The serial numbers of gear, and `check --serials`, which checks a bus by dali_commission and then reads that of each gear that answered alone.
+"""The serial numbers of gear, and `check --serials`, which checks a bus by dali_commission and then reads that of each gear that answered alone,
+over the same driver, which is started once more.
 
 A serial number is the GTIN and the identification number of memory bank 0, which is asked for by DTR1, DTR0 and READ MEMORY LOCATION. These
-commands are from memory of IEC 62386-102; no proof speaks of their frames, and gear of no maker were tried. They are sent when the check has
-ended, over the same driver, which is started once more. Twins, two gear under one short and one random address, have different serial numbers:
-that is said, and so is a gear that has another one than at the last reading, if a second reading tells the same.
+commands are from memory of IEC 62386-102; no proof speaks of their frames, and gear of no maker were tried. The numbers are kept beside the
+records by random address. They can be read again, so a file that has anything else counts as none.
 
-A byte is asked for eight times before it counts as not read. The numbers are kept beside the records by random address, those of `site.db` in
-`site.serials.json`: `table --names` and the page have them. A number that is not read stays as it was known. They can be read again, so a file
-that has anything else counts as none. With --json the object of the check has `serials`, a list with `address`, `random`, `gtin`,
-`identification`, `several` and `unread`.
-
-Exit statuses: those of `check`, 13 in place of 0 if twins answer, 15 if two readings differ; 7 if frames of the reading were lost eight
-times in a row; 3 if standard output cannot be written; 5 where the numbers cannot be kept.
-"""
+The status is that of `check`, 13 in place of 0 if twins answer, 15 if two readings differ; 7 if frames of the reading were lost."""
 
 import argparse
 import collections

@@ -4,6 +4,7 @@ import base64
 import collections.abc
 import contextlib
 import fcntl
+import functools
 import hashlib
 import hmac
 import http.server
@@ -131,19 +132,13 @@ def served(make: collections.abc.Callable[[int, str], "Server"], port: int, kept
     return make(port, kept.token)
 
 
-def tell(address: str, is_opened: bool) -> None:
-    """Says where a page is served, and starts a browser with it if that is wanted."""
-    print(address, flush=True)
-    standard.say("open this address in a browser; interrupt this program when you are done")
-    if is_opened:
-        threading.Thread(target=webbrowser.open, args=(address,), daemon=True).start()
-
-
 def serve(
-    make: collections.abc.Callable[[int, str], "Server"], opened: typing.TextIO, port: int, is_opened: bool, end: collections.abc.Callable[[], None]
+    make: collections.abc.Callable[[int, str], "Server"], opened: typing.TextIO | None, port: int, is_opened: bool,
+    beside: collections.abc.Callable[["Server"], object] = id,
 ) -> int:
-    """Serves until a signal comes, at an address that a file keeps; then all ends that goes on. The status."""
-    server, came = served(make, port, kept_of(opened)), []
+    """Serves until a signal comes, at an address that a file keeps, if there is one; then all ends that goes on. What is served beside it begins
+    with it. The status."""
+    server, came = served(make, port, kept_of(opened) if opened else Kept()), []
 
     def stop(number: int, _frame: object) -> None:
         came.append(number)
@@ -152,12 +147,10 @@ def serve(
     for number in joining.PASSED:
         if signal.getsignal(number) != signal.SIG_IGN:
             signal.signal(number, stop)
-    opened.seek(0)
-    opened.truncate()
-    print(server.address(), end="", file=opened, flush=True)
-    tell(server.address(), is_opened)
+    server.tell(opened, is_opened)
+    beside(server)
     server.serve_forever()
-    end()
+    server.end()
     return 128 + came[0]
 
 
@@ -166,18 +159,39 @@ class Server(http.server.ThreadingHTTPServer):
 
     daemon_threads, request_queue_size = True, 64
 
-    def __init__(self, bus: commanding.Bus | None, port: int, token: str = "", handler: type["Handler"] | None = None) -> None:
+    # The devices on the network that were let in, if any may be.
+    devices: typing.Any = None
+
+    def __init__(
+        self, bus: commanding.Bus | None, port: int, token: str = "", handler: type["Handler"] | None = None, host: str = LOOPBACK
+    ) -> None:
         self.bus, self.token, self.lanes = bus, token or secrets.token_urlsafe(24), threading.BoundedSemaphore(LANES)
         # The connections whose request is not whole yet, the oldest first.
         self.half_open, self.lock = {}, threading.Lock()
         page = source(PAGE)
         self.pages = {it: filled(page, it) for it in texts.languages()}
         self.policy, self.viewer_policy = policy(page), policy(story.VIEWER.read_text(encoding="utf-8"))
-        super().__init__((LOOPBACK, port), handler or Handler)
-        self.hosts = [f"{it}:{self.server_address[1]}" for it in (LOOPBACK, "localhost")]
+        super().__init__((host, port), handler or Handler)
+        self.hosts = [f"{it}:{self.server_address[1]}" for it in ((host, "localhost") if host == LOOPBACK else (host,))]
 
     def address(self) -> str:
         return f"http://{self.hosts[0]}/{self.token}/"
+
+    def tell(self, opened: typing.TextIO | None, is_opened: bool) -> None:
+        """Says where the page is served, also in a file, and starts a browser with it if that is wanted."""
+        if opened:
+            opened.seek(0)
+            opened.truncate()
+            print(self.address(), end="", file=opened, flush=True)
+        print(self.address(), flush=True)
+        standard.say("open this address in a browser; interrupt this program when you are done")
+        if is_opened:
+            threading.Thread(target=webbrowser.open, args=(self.address(),), daemon=True).start()
+
+    def end(self) -> None:
+        """Stops what goes on, and waits for its end."""
+        if self.bus:
+            self.bus.end()
 
     def process_request(self, request: socket.socket, client_address: typing.Any) -> None:
         """Answers a request in a thread of its own. If too many are open, the oldest that is not whole yet is cut off."""
@@ -228,10 +242,27 @@ class Handler(http.server.BaseHTTPRequestHandler):
 
     def do_GET(self) -> None:
         self.server.note_whole(self.connection)
-        self.answer({"": self.show, "state": self.tell_state, "table.csv": self.tell_csv, "frames": self.show_frames, "more": self.tell_more})
+        self.answer(self.shown())
 
     def do_POST(self) -> None:
-        self.answer({"do": self.do, "stop": self.stop, "name": self.name, "walk": self.walk})
+        self.answer(self.done())
+
+    def shown(self) -> dict[str, typing.Callable[[], None]]:
+        return {"": self.show, "state": self.tell_state, "table.csv": self.tell_csv, "frames": self.show_frames, "more": self.tell_more}
+
+    def done(self) -> dict[str, typing.Callable[[], None]]:
+        """What the page that leads may ask for, and that each one may lead."""
+        led = {"do": self.do, "stop": self.stop, "name": self.name, "walk": self.walk, "out": self.shut_out}
+        return {it: functools.partial(self.do_if_leading, call) for it, call in led.items()} | {"lead": self.lead}
+
+    def do_if_leading(self, call: typing.Callable[[], None]) -> None:
+        if self.server.devices and self.server.devices.leader != self.who():
+            raise Refused(409, "another device leads", ("Why", "sees"))
+        call()
+
+    def who(self) -> int:
+        """The number of the device that asks: this computer."""
+        return 0
 
     def answer(self, known: dict[str, typing.Callable[[], None]]) -> None:
         try:
@@ -255,17 +286,20 @@ class Handler(http.server.BaseHTTPRequestHandler):
         """What is asked for, where somebody asks who may."""
         if len(self.path) > LONGEST:
             raise Refused(414, "the address is too long")
-        said = {it: self.headers.get_all(it, []) for it in ("Host", "Origin", "Sec-Fetch-Site")}
-        is_own = len(said["Host"]) == 1 and said["Host"][0] in self.server.hosts
-        is_own &= all(it == f"http://{said['Host'][0]}" for it in said["Origin"]) if is_own else False
-        is_own &= all(it in OWN for it in said["Sec-Fetch-Site"])
         _, _, rest = self.path.partition("/")
         token, slash, what = rest.partition("/")
-        if not is_own or not hmac.compare_digest(token.encode(), self.server.token.encode()):
-            raise Refused(403, "refused: the page has the address that was printed when it was started")
+        self.refuse_others(hmac.compare_digest(token.encode(), self.server.token.encode()))
         if not slash:
             raise Refused(308, "the page is there", ("Location", f"/{self.server.token}/"))
         return what
+
+    def refuse_others(self, knows: bool) -> None:
+        """Refuses whoever asks from another page, or does not know the address."""
+        said = {it: self.headers.get_all(it, []) for it in ("Host", "Origin", "Sec-Fetch-Site")}
+        is_own = knows and len(said["Host"]) == 1 and said["Host"][0] in self.server.hosts
+        is_own = is_own and all(it == f"http://{said['Host'][0]}" for it in said["Origin"])
+        if not is_own or not all(it in OWN for it in said["Sec-Fetch-Site"]):
+            raise Refused(403, "refused: the page has the address that was printed when it was started")
 
     def body(self) -> dict[str, typing.Any]:
         """The object that a request brings."""
@@ -321,6 +355,7 @@ class Handler(http.server.BaseHTTPRequestHandler):
             state["command"]["told"] = [texts.told(it, language) for it in state["command"]["said"]]
             state["command"]["reason"] = [*map(self.said, state["command"].get("reason", []))]
         state["trouble"] = "\n".join(map(self.said, (state["trouble"] or "").splitlines()))
+        state["devices"] = self.server.devices and self.server.devices.state(self.who())
         self.write(200, "application/json", json.dumps(state))
 
     def show_frames(self) -> None:
@@ -353,6 +388,20 @@ class Handler(http.server.BaseHTTPRequestHandler):
     def stop(self) -> None:
         self.body()
         self.bus.stop()
+        self.tell_state()
+
+    def lead(self) -> None:
+        self.body()
+        if not self.server.devices:
+            raise Refused(404, "nothing stands here")
+        self.server.devices.lead(self.who())
+        self.tell_state()
+
+    def shut_out(self) -> None:
+        number = self.body().get("number")
+        if self.who() or not self.server.devices or not isinstance(number, int):
+            raise Refused(404, "nothing stands here")
+        self.server.devices.shut_out(number)
         self.tell_state()
 
     def name(self) -> None:

@@ -46,13 +46,11 @@ class Story(typing.NamedTuple):
     head   its first line
     lines  all lines between the first and the last one: lines of the script, events and findings
     end    its last line; None if the story is cut off, or its run goes on
-    cut    what is to be said of a story without end: else ""
     """
 
     head: Line
     lines: list[Line]
     end: Line | None
-    cut: str
 
     def events(self) -> list[Line]:
         return [it for it in self.lines if "event" in it and "finding" not in it]
@@ -246,10 +244,7 @@ def read(raw: bytes) -> Story:
         raise Bad(1, "the story has no head")
     if rest and reader.end:
         raise Bad(reader.number + 1, "a line stands behind the end of the story")
-    cut = ""
-    if not reader.end:
-        cut = f"line {reader.number + 1}: " + ("the line is cut off" if rest else "the story ends here without its last line")
-    return Story(lines[0], lines[1:-1] if reader.end else lines[1:], reader.end, cut)
+    return Story(lines[0], lines[1:-1] if reader.end else lines[1:], reader.end)
 
 
 # Words.

@@ -1,18 +1,6 @@
-"""What the launcher does of the places of luminaires, which are kept beside the records by random address (yolgibat/places.py):
+"""The table with the places of luminaires, which are kept beside the records by random address (places.py), and `identify --all`.
 
-    ./dali_commission table --names --records FILE [--csv | --json]
-    ./dali_commission identify --all --records FILE --driver COMMAND [--driver-timeout SECONDS]
-
-`table --names` writes the table as the program does, each gear with its place behind it, and its serial number if `check --serials` has
-read any.
-
-`identify --all` lets one luminaire of the table after the other blink, those without a place first, until a line is typed: where it
-hangs. An empty line leaves it as it is. `/again` lets it blink anew, `/later` puts it behind all others, `/back` goes back to the one
-before, `/end` ends the walk, and so does the end of the input. It says these commands first, and again if a line begins with a stroke
-and is none of them: that is no place.
-
-Exit statuses: those of dali_commission; 2 for a bad word; 3 if standard output cannot be written; 5 where the file of the places cannot be read or written.
-"""
+That lets one luminaire of the table after the other blink, those without a place first, until a line is typed: where it hangs."""
 
 import argparse
 import json
@@ -21,7 +9,7 @@ import pathlib
 import select
 import subprocess
 
-from yolgibat import command, joining, places, programs, serials, standard, texts
+from yolgibat import apart, command, joining, places, programs, serials, standard, texts
 
 NOBODY = 10
 
@@ -90,13 +78,11 @@ class Walk:
     def blink(self, address: int) -> int:
         """Lets it blink until that ends or something is typed. Its status where it has ended."""
         if not self.blinking:
-            words = joining.alone([self.program, "identify", str(address)], self.driver, self.seconds, True)
-            how = {"stdin": subprocess.DEVNULL, "stderr": subprocess.PIPE, "text": True, "start_new_session": True}
-            self.blinking = subprocess.Popen(words, **how)
+            self.blinking = apart.Process([[self.program, "identify", str(address)], self.driver, self.seconds, True])
         while self.blinking.poll() is None:
             if select.select([0], [], [], 0.1)[0]:
                 return 0
-        standard.say(self.blinking.stderr.read(), "")
+        standard.say(self.blinking.stderr.read().decode(errors="replace"), "")
         status, self.blinking = self.blinking.returncode, None
         return status
 

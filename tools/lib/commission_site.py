@@ -24,7 +24,7 @@ import typing
 from lib import ROOT, proving
 from lib.record_kinds import ENROL, KINDS, RELEASE, RESERVE
 
-# The device for which adapters/spi-bus stands.
+# The device for which adapters/tests/spi-bus stands.
 PORT = "/dev/spidev0.0"
 BETWEEN = ROOT / "tools/lib/commission_between.py"
 # What joins a program and a driver as ./dali_commission does it, and builds nothing.
@@ -125,7 +125,7 @@ class Place:
 
     def sampled(self, *words: Word, device: str = PORT) -> list[str]:
         """The driver for a port that samples the bus, over the stand-in for it."""
-        return [str(it) for it in (ROOT / "adapters/spi-bus", *words, self.gear_file, ROOT / "adapters/spi", device)]
+        return [str(it) for it in (ROOT / "adapters/tests/spi-bus", *words, self.gear_file, ROOT / "adapters/spi", device)]
 
     def begin(
         self, words: collections.abc.Iterable[Word], driver: list[str], **plan: typing.Any
@@ -142,7 +142,7 @@ class Place:
                 how = {"stdin": from_between, "stdout": to_between, "stderr": err, "restore_signals": False, "env": os.environ | self.settings}
                 program = self.started([self.program, *map(str, words)], **how)
                 if plan.get("kill"):
-                    plan["kill"]["pid"] = program.pid
+                    plan["kill"].setdefault("pid", program.pid)
                 call = [sys.executable, "-S", str(BETWEEN), json.dumps(plan)]
                 between = self.started(call, stdin=from_program, stdout=to_program, stderr=other)
         finally:

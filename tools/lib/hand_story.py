@@ -56,25 +56,6 @@ controller 0 came up, with the record that was outstanding
 controller 0 heard a damaged answer, and is done: gave-up
 controller 1 was told that its commit failed, and halts: store
 """.strip().splitlines()
-# What its page says first, and the gear and the tables on it.
-RESULT = """
-controller 0: gave-up: its transactions were lost again and again, or its searches led to no gear
-controller 1: halt-store: a record could not be kept
-1 of 2 gear have a short address
-frames on the bus: 8; they take at least 0.1 s
-1 answer lost
-1 answer damaged
-2 frames destroyed
-1 collision
-1 lapse of the bus
-1 power cut of a gear
-1 initialisation ran out
-1 controller went down
-""".strip().splitlines()
-TABLES = [
-    ["gear", "short", "power", "state", "random"], ["0", "1", "on", "disabled", "123456"], ["1", "-", "on", "disabled", "FFFFFF"],
-    ["controller", "short", "random"], ["0", "1", "123456"],
-]
 # What a receiver reads of its bus.
 FRAMES = [
     "A5FF", "A900", "FF", "A900", "damaged", "A900", "B703", "damaged", "damaged", "damaged", "damaged", "0100",

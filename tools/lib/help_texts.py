@@ -1,14 +1,21 @@
-"""The help and the version of the programs: yolgibat/help has them, so that they are there before a program is built."""
+"""The help and the version of the programs: yolgibat/help has them, so that they are there before a program is built. What an option does stands
+beside it there, and not below it."""
 
 import pathlib
+import re
 import subprocess
+import textwrap
 
 from lib import ROOT, proving
 
 FOLDER = ROOT / "yolgibat/help"
+WIDTH = 120
+# What a program says of its shorter help; a list of words or options, each with what it does below it; and each of them.
+SUMMARY, LIST = " (see a summary with '-h')", re.compile(r"(?<=:\n)(?: +\S.*\n(?: {10}.*\n|\n(?= ))+)+")
+ITEM = re.compile(r"^( {2,6}\S.*)\n((?: {10}.*\n|\n(?= {10}))+)", re.M)
 # Of each program the file of each text, and the words that ask for it. What only the launchers say, no program does: the files
-# of `launcher`, `page`, `building`, `audit` and `trace`, and dali_view.txt. In place of dali_commission.txt ./dali_commission says
-# dali_commission-launcher.txt, which the lint compares with the helps of its commands.
+# of `launcher`, `page`, `building`, `audit` and `trace`, and dali_view.txt. The lint compares dali_commission-launcher.txt with the helps of its
+# commands.
 WORDS = {
     "dali_sim": {
         "dali_sim.txt": ["--help"],
@@ -17,7 +24,6 @@ WORDS = {
         "dali_sim-version.txt": ["--version"],
     },
     "dali_commission": {
-        "dali_commission.txt": ["--help"],
         "dali_commission-run.txt": ["run", "--help"],
         "dali_commission-check.txt": ["check", "--help"],
         "dali_commission-identify.txt": ["identify", "--help"],
@@ -38,7 +44,16 @@ def texts(name: str, program: str | pathlib.Path | None) -> dict[pathlib.Path, b
 
 def said(program: str | pathlib.Path, words: list[str]) -> bytes:
     """What the program says to these words."""
-    return subprocess.run([program, *words], capture_output=True, stdin=subprocess.DEVNULL, check=True).stdout
+    wrote = subprocess.run([program, *words], capture_output=True, stdin=subprocess.DEVNULL, check=True).stdout
+    return LIST.sub(beside, wrote.decode().replace(SUMMARY, "")).encode()
+
+
+def beside(found: re.Match[str]) -> str:
+    """A list in which what each word does stands beside it."""
+    items = [(label, " ".join(text.split())) for label, text in ITEM.findall(found[0])]
+    column = max(len(label) for label, _ in items) + 2
+    lines = [textwrap.fill(f"{label:{column}}{text}", WIDTH, subsequent_indent=" " * column, break_on_hyphens=False) for label, text in items]
+    return "\n".join(lines) + "\n"
 
 
 def stale(name: str, program: str | pathlib.Path | None = None) -> list[pathlib.Path]:

@@ -11,11 +11,18 @@ import sys
 import types
 from collections.abc import Iterator
 
-from lib import line_forms, spelled, statement, writing, wrong_bodies
+from lib import line_forms, spelled, statement, whole, writing, wrong_bodies
 
 WIDTHS = {"src": (".rt", 120), "specs": (".antt", 100), "proofs": (".antt", 160)}
 LONGEST = 800
 HELP_WIDTH = 100
+# What users run beside the proved programs, with what makes the page in a browser and the packages; and how many lines it has at most. Tests of
+# drivers are none of it, nor is what checks and measures.
+USED = (
+    "dali_*", "yolgibat/*", "yolgibat/help/*", "adapters/*", "tools/web", "tools/lib/web/*", "tools/lib/try_page.py", "tools/package",
+    "tools/lib/packaged/*", *(f"tools/lib/{it}.py" for it in ("packing", "program_files", "debian", "manual_pages")),
+)
+MOST_USED = 12_100
 # The folders that have crates, and the lists of what each crate stands on.
 FOLDERS = {"crates": "crates.txt", "tests": "tests/tests.txt", "extra": "extra/programs.txt"}
 
@@ -59,6 +66,17 @@ def lengths(root: pathlib.Path) -> Iterator[str]:
             count = len(file.read_text().splitlines())
             if count >= LONGEST:
                 yield f"{named(root, file)}: {count} lines, and fewer than {LONGEST} wanted"
+
+
+def used(root: pathlib.Path) -> int:
+    """How many lines users run."""
+    return sum(len(it.read_bytes().splitlines()) for pattern in USED for it in files(root, pattern) if it.is_file())
+
+
+def sizes(root: pathlib.Path) -> Iterator[str]:
+    """What users run has at most so many lines."""
+    if used(root) > MOST_USED:
+        yield f"{used(root)} lines are run by users, and {MOST_USED} at most"
 
 
 def imported(text: str) -> Iterator[tuple[str, re.Match]]:
@@ -373,11 +391,11 @@ def public(body: list[ast.stmt], before: str = "") -> Iterator[tuple[str, ast.Fu
 
 
 RULES = (
-    widths, lengths, imports, docs, crates, drawing, links, paths, examples, clauses, readmes, writing.words, writing.plain, kit,
+    widths, lengths, sizes, imports, docs, crates, drawing, links, paths, examples, clauses, readmes, writing.words, writing.plain, kit,
     handles, spellings, forms, page, edits, version, helps, front, annotations,
 )
 # What is told, and is no offence.
-WARNINGS = (writing.sentences,)
+WARNINGS = (writing.sentences, whole.whole)
 
 
 def offences(root: pathlib.Path | str, rules: tuple = RULES) -> dict[str, list[str]]:

@@ -1,11 +1,9 @@
 """The manual pages of the launchers, made of their help texts and of the tables of exit statuses in docs/FORMAT.md."""
 
-import collections.abc
 import re
-import typing
 
 from lib import ROOT, packing
-from yolgibat import call_words
+from yolgibat import call_words, command, helps
 
 HELP = ROOT / "yolgibat/help"
 # What of a help text is about building, and the name of a launcher in one.
@@ -32,22 +30,14 @@ FILES = {
     "/usr/lib/yolgibat/adapters": "drivers; in a --driver they may be named as adapters/NAME",
     "/usr/share/doc/yolgibat": "manuals, examples, the commit, and what its tests said",
 }
-HEADING = re.compile(r"(\S[^\n]*):")
-ITEM = re.compile(r" {1,6}(\S.*?)(?: {2,}(\S.*))?")
+# How wide a help text is on a page, of 78 columns without the indent.
+WIDTH = 71
 MARKUP = (
     (r"!?\[([^\]]*)\]\([^)]*\)", r"\1"),
     (r"(?<![\\`])`([^`]+)`", "\x01\\1\x02"),
     (r"\*\*([^*]+)\*\*", "\x01\\1\x02"),
     (r"(?<![*\w])\*([^*]+)\*", r"\1"),
 )
-
-
-class Block(typing.NamedTuple):
-    """A part of a help text: its heading, if it has one, its paragraphs, and its items, each with what is said of it."""
-
-    heading: str
-    text: list[str]
-    items: list[tuple[str, str]]
 
 
 def escaped(text: str) -> str:
@@ -80,67 +70,15 @@ def rows(heading: str) -> list[list[str]]:
     return [[cell.strip() for cell in re.split(r"(?<!\\)\|", line)[1:-1]] for line in lines[1:]]
 
 
-def blocks(text: str) -> collections.abc.Iterator[Block]:
-    """The parts of a help text: lines between blanks, of which indented ones are items. Indented parts belong to the one before."""
-    for lines in parts(text):
-        head = [it for it in lines if not it.startswith(" ")]
-        heading = HEADING.fullmatch(head[0]) if len(head) == 1 else None
-        yield Block(heading[1] if heading else "", [] if heading else head, items([it for it in lines if it.startswith(" ")]))
-
-
-def parts(text: str) -> list[list[str]]:
-    """The lines of each part: what is not indented, and what is indented behind it."""
-    found: list[list[str]] = []
-    is_text = False
-    for line in text.strip("\n").splitlines():
-        begins = bool(line.strip()) and not line.startswith(" ")
-        if not found or begins and not is_text:
-            found.append([])
-        found[-1] += [line] if line.strip() else []
-        is_text = begins
-    return found
-
-
-def items(lines: list[str]) -> list[tuple[str, str]]:
-    """What is listed, each with what is said of it, on its line or deeper below."""
-    found: list[tuple[str, str]] = []
-    for line in lines:
-        item = ITEM.fullmatch(line)
-        if item:
-            found.append((item[1], item[2] or ""))
-        elif found:
-            found[-1] = (found[-1][0], f"{found[-1][1]} {line.strip()}".strip())
-    return found
-
-
 def listed(them: list[tuple[str, str]]) -> str:
-    """Items, each with what is said of it; or as they stand, if nothing is said of any."""
-    if not any(said for _, said in them):
-        return ".EX\n" + "".join(f"{escaped(it)}\n" for it, _ in them) + ".EE\n"
+    """Items, each with what is said of it."""
     return "".join(f".TP\n.B {escaped(it)}\n{escaped(said)}\n" for it, said in them)
 
 
-def told(text: str, level: str) -> str:
-    """A help text below headings of this level. Its usage stands in the synopsis already."""
-    made = []
-    for it in blocks(text):
-        head = f"{level} {quoted(it.heading)}\n" if it.heading else ".PP\n"
-        made.append(head + "".join(f"{escaped(line)}\n" for line in it.text) + (listed(it.items) if it.items else ""))
-    return "".join(made)
-
-
-def quoted(heading: str) -> str:
-    return '"' + escaped(heading).replace('"', "\\(dq") + '"'
-
-
-def usages(text: str) -> list[str]:
-    """The lines of usage of a help text."""
-    found = re.search(r"^Usage: (.*(?:\n {7}\S.*)*)", text, re.M)
-    return [it.strip() for it in found[1].splitlines()] if found else []
-
-
-def without_usage(text: str) -> str:
-    return re.sub(r"^Usage: .*(?:\n {7}\S.*)*\n", "", text, flags=re.M)
+def shown(*names: str) -> str:
+    """Help texts as a terminal shows them."""
+    text = spoken("".join((HELP / f"{it}.txt").read_text() for it in names))
+    return f".EX\n{escaped(helps.filled(text, WIDTH))}.EE\n"
 
 
 def head(name: str, number: int, about: str) -> str:
@@ -151,13 +89,6 @@ def head(name: str, number: int, about: str) -> str:
 def commands(program: str) -> list[str]:
     """The commands of a program that have a help text, as its help lists them."""
     return [it for it in call_words.commands(program) if (HELP / f"{program}-{it}.txt").exists()]
-
-
-def whole(program: str) -> str:
-    """What a launcher says to --help."""
-    own = HELP / f"{program}-launcher.txt"
-    alone = program == "dali_commission"
-    return ("" if alone else (HELP / f"{program}.txt").read_text()) + (own.read_text() if own.exists() else "")
 
 
 def statuses(program: str) -> str:
@@ -175,13 +106,10 @@ def spoken(text: str) -> str:
 
 def page(program: str) -> str:
     """The page of a launcher."""
-    name, text = program.replace("_", "-"), spoken(whole(program))
-    helps = {it: spoken((HELP / f"{program}-{it}.txt").read_text()) for it in commands(program)}
-    used = [line for it in (text, *helps.values()) for line in usages(it)]
-    made = head(name, 1, ABOUT[program]) + ".SH SYNOPSIS\n.EX\n" + "".join(f"{escaped(it)}\n" for it in used) + ".EE\n"
-    made += ".SH DESCRIPTION\n" + told(without_usage(text), ".SS")
-    for command, it in helps.items():
-        made += f".SH {quoted(f'COMMAND {command}')}\n" + told(without_usage(it), ".SS")
+    name = program.replace("_", "-")
+    made = head(name, 1, ABOUT[program]) + f".SH SYNOPSIS\n.B {escaped(name)}\n.RI [ words ]\n.SH DESCRIPTION\n" + shown(*command.TEXTS[program])
+    for it in commands(program):
+        made += f'.SH "COMMAND {it}"\n' + shown(f"{program}-{it}")
     made += statuses(program) if program in STATUSES else ""
     others = [it.replace("_", "-") for it in ABOUT if it != program]
     return made + ".SH SEE ALSO\n" + ",\n".join([*(f".BR {escaped(it)} (1)" for it in others), ".BR yolgibat (7)"]).replace(",\n", " ,\n") + "\n"

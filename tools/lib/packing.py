@@ -84,12 +84,6 @@ def manual(*names: str) -> list[pathlib.Path]:
     return found
 
 
-def lost_links(place: pathlib.Path) -> list[str]:
-    """The links of pages that lead out of what was unpacked, or to nothing."""
-    found = [(page, it) for page in sorted(place.rglob("*.md")) for it in links(page)]
-    return [f"{page.relative_to(place)}: {it}" for page, it in found if not (it.is_relative_to(place.resolve()) and it.exists())]
-
-
 def read(*them: pathlib.Path) -> Files:
     """Files of the repository, by their places in it."""
     return {str(it.relative_to(ROOT)): Entry(it.read_bytes(), bool(it.stat().st_mode & 0o100)) for it in them}

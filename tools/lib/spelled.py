@@ -189,7 +189,7 @@ PLACES = (
     Place("adapters/lines.py", line("SILENCE,"), "Input", '"{kebab}"', NOT_OF_FRAMES),
     Place("adapters/template", block("# So this ends with", "def "), "Answer", "return lines.{UPPER}", "Byte"),
     Place("adapters/template", block("# So this ends with", "def "), "Input", "return lines.{UPPER}", NOT_OF_FRAMES),
-    Place("adapters/testing.py", line("                if told[-1] in"), "Input", '"{kebab}"', NOT_OF_FRAMES),
+    Place("adapters/tests/testing.py", line("                if told[-1] in"), "Input", '"{kebab}"', NOT_OF_FRAMES),
     # Stories: their format, the schema of a line, and the words of the viewer.
     Place(FORMAT, line("- **The end**"), "End", "`{name}`"),
     Place(FORMAT, line("- **The end**"), "Fault", "`halt-{name}`"),

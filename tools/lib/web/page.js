@@ -86,8 +86,8 @@ new ResizeObserver(showNumbers).observe(script);
 
 // ---- What comes of the script: as soon as it changes.
 const SHOWN = 200_000, DRAWN = 3_000_000;
-// `last` is what was played last, `good` the last of these that came to its end.
-let typing = 0, last = null, good = null, shown = null, drawing = null;
+// `last` is what was played last.
+let typing = 0, last = null, shown = null, drawing = null;
 function edited() {
   lines = script.value.split('\n');
   wrong = null;
@@ -110,12 +110,7 @@ async function play() {
   await showReport();
   if (found.status) { showPicture(null); return; }
   const told = await ask('story', 'story', bytes);
-  if (!told || last.text !== text) return;
-  if (!told.status) {
-    good = { lines: last.lines, story: told.wrote };
-    findMoments();
-  }
-  showPicture(told);
+  if (told && last.text === text) showPicture(told);
 }
 function say(kind, text, button) {
   at('where').className = `box ${kind}`;
@@ -134,70 +129,12 @@ at('form').onchange = showReport;
 at('stop').onclick = stop;
 script.addEventListener('input', edited);
 
-// ---- Moments: behind the first lines, and behind each line that was played. Of a `run` each round is a moment.
-let moments = [], upTo = [0], showing = 0;
-function findMoments() {
-  moments = [];
-  upTo = [1];
-  for (const row of textOf(good.story).split('\n')) {
-    if (!row.startsWith('{"line":')) continue;
-    const { line, report } = JSON.parse(row), run = /^run (\d+)$/.exec(good.lines[line - 1]), sent = /^ran (\d+)$/m.exec(report);
-    // A round sends at most one frame. A round without one has a commit or an end in the report, or is the last one.
-    const rounds = run ? Math.max(1, Math.min(+run[1], (sent ? +sent[1] : 0) + report.split('\n').length)) : 0;
-    moments.push({ line, rounds, isRun: !!run });
-    upTo.push(upTo[upTo.length - 1] + Math.max(1, rounds));
-  }
-  at('moment').max = upTo[upTo.length - 1] - 1;
-  at('moment').value = at('moment').max;
-  showMoment();
-}
-// Which line a moment stands behind, and in a run behind which round.
-function momentAt(k) {
-  if (k < 1) return { line: (moments[0]?.line ?? good.lines.length + 1) - 1, round: 0 };
-  let low = 0, high = moments.length - 1;
-  while (low < high) {
-    const middle = (low + high) >> 1;
-    if (k < upTo[middle + 1]) high = middle; else low = middle + 1;
-  }
-  const { line, isRun, rounds } = moments[low];
-  return { line, isRun, rounds, round: k - upTo[low] + 1 };
-}
-async function showMoment() {
-  const k = +at('moment').value, { line, isRun, round, rounds } = momentAt(k), of = good;
-  at('back').disabled = k <= 0;
-  at('on').disabled = k >= +at('moment').max;
-  const before = of.lines.slice(0, line);
-  if (isRun) before[line - 1] = `run ${round}`;
-  const found = await ask('moment', 'json', bytesOf(`${before.join('\n')}\nshow\n`));
-  if (!found || of !== good) return;
-  const where = k < 1 ? 'Before the first line that is played' : isRun ? `After round ${round} of ${rounds} of line ${line}: ${of.lines[line - 1]}`
-    : `After line ${line}: ${of.lines[line - 1]}`;
-  at('moment').setAttribute('aria-valuetext', where);
-  at('moment-say').textContent = found.status ? found.said : where;
-  if (!found.status) showState(JSON.parse(textOf(found.wrote).trimEnd().split('\n').pop()));
-}
-function showState({ gear, tables = [] }) {
-  const head = element('tr');
-  head.append(...['Gear', 'Short address', 'Power', 'State', 'Random address', 'Search address', 'In table of controller'].map(it => element('th', it, { scope: 'col' })));
-  at('gear').tHead.replaceChildren(head);
-  at('gear').tBodies[0].replaceChildren(...gear.map(it => {
-    const row = element('tr'), by = tables.filter(one => one.entries.some(entry => entry.short === it.short && entry.random === it.random));
-    const cells = [it.gear, it.short ?? '\u2013', it.power, it.state, it.random, it.search, by.map(one => one.controller).join(', ')];
-    row.append(...cells.map((cell, k) => element('td', String(cell), { className: k === 4 || k === 5 ? 'r' : '' })));
-    return row;
-  }));
-  at('tables').replaceChildren(...tables.map(it => element('p', `Table of controller ${it.controller}: ${
-    it.entries.map(entry => `${entry.short} = ${entry.random}`).join(', ') || 'no entry'}`)));
-}
-at('moment').oninput = () => { if (good) showMoment(); };
-for (const [id, by] of [['back', -1], ['on', 1]]) at(id).onclick = () => { at('moment').value = +at('moment').value + by; if (good) showMoment(); };
-
 // ---- The picture: the viewer, filled with the story.
 let viewer = '';
 function showPicture(told) {
   at('draw').hidden = true;
   if (!told || told.status) {
-    at('picture-say').textContent = good ? 'Picture and moments are those of the last script that could be played to its end.' : '';
+    at('picture-say').textContent = drawing ? 'The picture is that of the last script that could be played to its end.' : '';
     return;
   }
   if (told.wrote.length > DRAWN) {
@@ -213,7 +150,7 @@ function draw(story) {
   at('draw').hidden = true;
   at('picture-say').textContent = '';
   const [before, after] = viewer.split('/*' + 'STORY*/');
-  const page = new Blob([before.replace('<!--RESULT-->', ''), textOf(story).replaceAll('<', '\\u003c'), after], { type: 'text/html' });
+  const page = new Blob([before, textOf(story).replaceAll('<', '\\u003c'), after], { type: 'text/html' });
   if (drawing) URL.revokeObjectURL(drawing);
   drawing = URL.createObjectURL(page);
   // A new frame in place of the old one leaves no step in the browser's history.

@@ -24,98 +24,64 @@ function drawn(random, count, limit, before = []) {
   return found;
 }
 
-// Blocks of addresses for so many controllers: the 64 addresses in equal parts.
-function blocksOf(controllers) {
-  const each = Math.floor(64 / controllers);
-  return [...Array(controllers).keys()].map(c => [c * each, c === controllers - 1 ? 63 : (c + 1) * each - 1]);
-}
-
 // The lines of the rounds of a site, one after the other.
-function roundsOf(site, blocks, rules) {
+function roundsOf(site, rules) {
   const random = numbers(`rounds ${site.seed}`), pick = count => Math.floor(random() * count);
   const happens = trouble => site.chances[trouble] > 0 && random() < site.chances[trouble];
-  const lines = [], off = new Map(), down = new Map();
-  const takers = () => {
-    const gear = [...Array(site.gear).keys()], half = gear.filter(() => random() < 0.5);
-    return [[], [pick(site.gear)], half, gear][pick(4)].join(',') || '-';
+  const all = count => [...Array(count).keys()], arc = () => hexadecimal(2 * pick(128), 2) + hexadecimal(pick(256), 2);
+  const takers = () => [[], [pick(site.gear)], all(site.gear).filter(() => random() < 0.5), all(site.gear)][pick(4)].join(',') || '-';
+  const once = { lapse: () => 'lapse', expire: () => `expire ${pick(site.gear)}`, quiet: () => 'quiet', show: () => 'show',
+    arc: () => `arc ${pick(site.controllers)} ${arc()}`, foreign: () => `foreign ${arc()}` };
+  const surveys = c => site.survey ? [`survey ${c}`] : [];
+  // Who is away: the line by which it comes back, with the round.
+  const lines = all(site.controllers).flatMap(surveys), away = new Map();
+  const backs = now => [...away].filter(([, back]) => back <= now).flatMap(([line]) => {
+    away.delete(line);
+    return line.startsWith('up') ? [line, ...surveys(line.slice(3))] : [line];
+  });
+  const leaves = now => {
+    const found = [], gear = pick(site.gear), controller = pick(site.controllers);
+    if (happens('power') && !away.has(`on ${gear}`)) {
+      found.push(`off ${gear}`);
+      away.set(`on ${gear}`, now + 1 + pick(rules.absence));
+    }
+    if (happens('restart') && !away.has(`up ${controller}`)) {
+      found.push(...pick(2) ? [`store ${controller}`] : [], `down ${controller}`);
+      away.set(`up ${controller}`, now + pick(rules.absence + 1));
+    }
+    return found;
   };
   const turnOfTheBus = () => {
     let left = random();
-    for (const trouble of rules.frame) {
-      left -= site.chances[trouble] || 0;
-      if (left < 0) return trouble === 'destroyed' ? `pump destroyed ${takers()}` : `pump ${trouble}`;
-    }
-    return 'pump';
-  };
-  const backs = now => {
-    const found = [];
-    for (const [line, away] of [['on', off], ['up', down]]) {
-      for (const [who, back] of [...away]) {
-        if (back > now) continue;
-        found.push(`${line} ${who}`);
-        if (line === 'up' && site.survey) found.push(`survey ${who}`);
-        away.delete(who);
-      }
-    }
-    return found;
-  };
-  const leaves = now => {
-    const found = [], gear = pick(site.gear), controller = pick(blocks.length);
-    if (happens('power') && !off.has(gear)) {
-      found.push(`off ${gear}`);
-      off.set(gear, now + 1 + pick(rules.absence));
-    }
-    if (happens('restart') && !down.has(controller)) {
-      if (pick(2)) found.push(`store ${controller}`);
-      found.push(`down ${controller}`);
-      down.set(controller, now + pick(rules.absence + 1));
-    }
-    return found;
-  };
-  const before = now => {
-    const found = [...leaves(now), ...backs(now)];
-    if (happens('lapse')) found.push('lapse');
-    if (happens('expire')) found.push(`expire ${pick(site.gear)}`);
-    if (happens('quiet')) found.push('quiet');
-    const arc = () => hexadecimal(2 * pick(128), 2) + hexadecimal(pick(256), 2);
-    if (happens('arc')) found.push(`arc ${pick(blocks.length)} ${arc()}`);
-    if (happens('foreign')) found.push(`foreign ${arc()}`);
-    if (happens('show')) found.push('show');
-    return found;
-  };
-  const turns = () => {
-    const found = [];
-    let isDisturbed = false;
-    for (let controller = 0; controller < blocks.length; controller += 1) {
-      if (down.has(controller)) continue;
-      for (const trouble of rules.commit) if (happens(trouble)) { found.push(`${trouble} ${controller}`); isDisturbed = true; }
-      found.push(`go ${controller}`);
-    }
-    return [found, isDisturbed];
+    const trouble = rules.frame.find(it => (left -= site.chances[it] || 0) < 0);
+    return trouble ? `pump ${trouble}${trouble === 'destroyed' ? ` ${takers()}` : ''}` : 'pump';
   };
   let quiet = 0;
-  const flush = () => { if (quiet) lines.push(`run ${quiet}`); quiet = 0; };
-  if (site.survey) blocks.forEach((_, controller) => lines.push(`survey ${controller}`));
+  const add = (...more) => { lines.push(...quiet ? [`run ${quiet}`] : [], ...more); quiet = 0; };
   for (let now = 0; now < site.rounds; now += 1) {
-    const first = before(now), [acts, isDisturbed] = turns(), bus = turnOfTheBus();
-    if (first.length) { flush(); lines.push(...first); }
-    if (isDisturbed || bus !== 'pump') { flush(); lines.push(...acts, bus); } else quiet += 1;
+    const first = [...leaves(now), ...backs(now), ...Object.keys(once).filter(happens).map(it => once[it]())];
+    const acts = all(site.controllers).filter(c => !away.has(`up ${c}`)).flatMap(c => [...rules.commit.filter(happens), 'go'].map(it => `${it} ${c}`));
+    const bus = turnOfTheBus();
+    if (first.length) add(...first);
+    if (bus !== 'pump' || acts.some(it => !it.startsWith('go'))) add(...acts, bus); else quiet += 1;
   }
-  flush();
+  add();
   return [...lines, ...backs(Infinity)];
 }
 
 // The script of a site: `gear`, `controllers`, `used`, `seed`, `survey`, and `chances` of troubles in a round, from 0 to 1.
 function siteScript(site, rules) {
-  const blocks = blocksOf(site.controllers), draws = drawn(numbers(`draws ${site.seed}`), Math.min(rules.draws, 64 * site.gear), 0xFFFFFF);
+  const draws = drawn(numbers(`draws ${site.seed}`), Math.min(rules.draws, 64 * site.gear), 0xFFFFFF), each = Math.floor(64 / site.controllers);
   const random = numbers(`used ${site.seed}`), count = Math.min(site.used, site.gear, 64);
   const places = drawn(random, count, site.gear).sort((a, b) => a - b), shorts = drawn(random, count, 64);
   const randoms = drawn(random, count, 0xFFFFFF, draws);
-  const head = [`site ${site.gear} ${blocks.map(it => it.join('-')).join(' ')}`, `draws ${draws.map(it => hexadecimal(it, 6)).join(' ')}`,
+  // The 64 addresses in equal parts.
+  const blocks = [...Array(site.controllers).keys()].map(c => `${c * each}-${c === site.controllers - 1 ? 63 : (c + 1) * each - 1}`);
+  const head = [`site ${site.gear} ${blocks.join(' ')}`, `draws ${draws.map(it => hexadecimal(it, 6)).join(' ')}`,
     ...places.map((place, k) => `used ${place} ${shorts[k]} ${hexadecimal(randoms[k], 6)}`)];
   // So many rounds as there is room for.
   for (let rounds = Math.min(rules.rounds, 120 * site.gear * site.controllers); ; rounds = Math.floor(rounds / 2)) {
-    const text = `${[...head, ...roundsOf({ ...site, rounds }, blocks, rules), `run ${rules.last}`, 'show'].join('\n')}\n`;
+    const text = `${[...head, ...roundsOf({ ...site, rounds }, rules), `run ${rules.last}`, 'show'].join('\n')}\n`;
     if (text.length <= rules.bytes) return text;
   }
 }
