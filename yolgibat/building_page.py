@@ -14,7 +14,7 @@ PAGE = ROOT / "yolgibat/building.html"
 # The page of a bus below that of its building: its number, and what is asked for there.
 BELOW = re.compile(r"bus/([0-9]{1,4})(/.*)?")
 # What may be asked of many buses, and how many are begun side by side.
-COMMANDS, LANES = ("run", "check"), 8
+COMMANDS, LANES = ("run", "check", "mend"), 8
 
 
 class Bus(commanding.Bus):
@@ -74,7 +74,7 @@ class Bus(commanding.Bus):
             odd, silent = sorted({*self.left_alone, *self.strangers}), sorted(at for at, _ in self.silent)
             missing, command, walk = sorted(at for at, _ in self.missing), self.command, self.walking()
             found = {"name": self.name, "count": len(self.table), "odd": odd, "silent": silent, "missing": missing, "trouble": self.trouble}
-            found |= {"unaddressed": self.unaddressed, "checked": self.checked, "words": None, "status": None}
+            found |= {"unaddressed": self.unaddressed, "checked": self.checked, "words": None, "status": None, "mends": self.mends()}
             if walk:
                 return found | {"is": "busy", "command": "identify", "address": walk.address(), "found": None, "frames": None, "phase": None}
             if not self.idle.is_set():

@@ -4,6 +4,7 @@ docs/FORMAT.md has the exit statuses, docs/ADAPTERS.md what a COMMAND of a drive
 
 import argparse
 import contextlib
+import ipaddress
 import os
 import pathlib
 import re
@@ -107,6 +108,14 @@ def port_of(word: str) -> int:
     return int(word)
 
 
+def host_of(word: str) -> str:
+    """An address of this computer on a network, of IPv4."""
+    try:
+        return str(ipaddress.IPv4Address(word))
+    except ValueError as why:
+        raise argparse.ArgumentTypeError(f"'{word}' is no address such as 192.168.1.20") from why
+
+
 def count_of(word: str) -> int:
     """How many buses at once."""
     if not re.fullmatch(r"[1-9][0-9]{0,3}", word):
@@ -164,7 +173,7 @@ OTHERS, PORT = {"action": "append", "type": block_of, "default": []}, {"type": p
 
 
 def of_page(words: list[str]) -> argparse.Namespace:
-    options = Options("dali_commission page", records=MANY | WANTED, others=OTHERS, port=PORT, open=FLAG, expect=MANY, program={})
+    options = Options("dali_commission page", records=MANY | WANTED, others=OTHERS, port=PORT, open=FLAG, expect=MANY, program={}, listen={"type": host_of})
     options.add_argument("block", nargs="?", type=block_of, default="0-63")
     return over_driver(options, words)
 

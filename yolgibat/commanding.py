@@ -592,6 +592,10 @@ class Bus:
                 "walk": walk.state() if walk else None, "walked": self.walked, "onward": None, "next": next_step,
             }
 
+    def mends(self) -> bool:
+        """Whether a mending has something to do."""
+        return bool(self.left_alone) or any(what in MENDS for what, _ in self.strangers.values())
+
     def next_step(self, unfinished: int | None) -> dict[str, typing.Any] | None:
         """What is to be done next, with its short address if it has one; or None, if the page does not know."""
         command, status = self.command, self.command and self.command.outcome()
@@ -599,7 +603,7 @@ class Bus:
             return {"command": "replace", "address": unfinished}
         if command and not self.walked and command.name in IN_TURN and (status in AGAIN or status >= STOPPED):
             return {"command": command.name, "address": command.address}
-        if self.left_alone or any(what in MENDS for what, _ in self.strangers.values()):
+        if self.mends():
             return {"command": "mend", "address": None}
         gone = [it["address"] for it in self.table if (it["address"], it["random"]) in self.missing]
         if len(gone) == 1:

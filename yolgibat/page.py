@@ -6,13 +6,14 @@ The status is 0 if a page is served over these records already, whose address is
 import argparse
 import collections.abc
 import fcntl
+import functools
 import json
 import os
 import pathlib
 import threading
 import typing
 
-from yolgibat import ROOT, apart, command, commanding, joining, programs, serving, standard
+from yolgibat import ROOT, apart, command, commanding, joining, listening, programs, serving, standard
 
 BAD_WORD, NO_RECORDS = 2, 5
 PAGE = ROOT / "yolgibat/choose.html"
@@ -77,8 +78,9 @@ def bus_of(chosen: argparse.Namespace, program: str, opened: typing.TextIO) -> c
 
 
 def serve(make: collections.abc.Callable[[int, str], serving.Server], opened: typing.TextIO | None, chosen: argparse.Namespace) -> int:
+    host = getattr(chosen, "listen", None)
     try:
-        return serving.serve(make, opened, chosen.port, chosen.open)
+        return serving.serve(make, opened, chosen.port, chosen.open, functools.partial(listening.listen, host=host) if host else id)
     except OSError as why:
         standard.say(f"error: the page cannot be served: {why.strerror}")
         return BAD_WORD

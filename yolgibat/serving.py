@@ -4,6 +4,7 @@ import base64
 import collections.abc
 import contextlib
 import fcntl
+import functools
 import hashlib
 import hmac
 import http.server
@@ -138,8 +139,12 @@ def served(make: collections.abc.Callable[[int, str], "Server"], port: int, kept
     return make(port, kept.token)
 
 
-def serve(make: collections.abc.Callable[[int, str], "Server"], opened: typing.TextIO | None, port: int, is_opened: bool) -> int:
-    """Serves until a signal comes, at an address that a file keeps, if there is one; then all ends that goes on. The status."""
+def serve(
+    make: collections.abc.Callable[[int, str], "Server"], opened: typing.TextIO | None, port: int, is_opened: bool,
+    beside: collections.abc.Callable[["Server"], object] = id,
+) -> int:
+    """Serves until a signal comes, at an address that a file keeps, if there is one; then all ends that goes on. What is served beside it begins
+    with it. The status."""
     server, came = served(make, port, kept_of(opened) if opened else Kept()), []
 
     def stop(number: int, _frame: object) -> None:
@@ -150,6 +155,7 @@ def serve(make: collections.abc.Callable[[int, str], "Server"], opened: typing.T
         if signal.getsignal(number) != signal.SIG_IGN:
             signal.signal(number, stop)
     server.tell(opened, is_opened)
+    beside(server)
     server.serve_forever()
     server.end()
     return 128 + came[0]
@@ -158,14 +164,19 @@ def serve(make: collections.abc.Callable[[int, str], "Server"], opened: typing.T
 class Server(http.server.ThreadingHTTPServer):
     daemon_threads, request_queue_size = True, 64
 
-    def __init__(self, bus: commanding.Bus | None, port: int, token: str = "", handler: type["Handler"] | None = None) -> None:
+    # The devices on the network that were let in, if any may be.
+    devices: typing.Any = None
+
+    def __init__(
+        self, bus: commanding.Bus | None, port: int, token: str = "", handler: type["Handler"] | None = None, host: str = LOOPBACK
+    ) -> None:
         self.bus, self.token, self.lanes = bus, token or secrets.token_urlsafe(24), threading.BoundedSemaphore(LANES)
         # The connections whose request is not whole yet, the oldest first.
         self.half_open, self.lock = {}, threading.Lock()
         self.pages, self.policy = prepared(PAGE)
         self.viewer_policy = policy(story.VIEWER.read_text(encoding="utf-8"))
-        super().__init__((LOOPBACK, port), handler or Handler)
-        self.hosts = [f"{it}:{self.server_address[1]}" for it in (LOOPBACK, "localhost")]
+        super().__init__((host, port), handler or Handler)
+        self.hosts = [f"{it}:{self.server_address[1]}" for it in ((host, "localhost") if host == LOOPBACK else (host,))]
 
     def address(self) -> str:
         return f"http://{self.hosts[0]}/{self.token}/"
@@ -232,10 +243,27 @@ class Handler(http.server.BaseHTTPRequestHandler):
 
     def do_GET(self) -> None:
         self.server.note_whole(self.connection)
-        self.answer({"": self.show, "state": self.tell_state, "table.csv": self.tell_csv, "frames": self.show_frames, "more": self.tell_more})
+        self.answer(self.shown())
 
     def do_POST(self) -> None:
-        self.answer({"do": self.do, "stop": self.stop, "name": self.name, "walk": self.walk})
+        self.answer(self.done())
+
+    def shown(self) -> dict[str, typing.Callable[[], None]]:
+        return {"": self.show, "state": self.tell_state, "table.csv": self.tell_csv, "frames": self.show_frames, "more": self.tell_more}
+
+    def done(self) -> dict[str, typing.Callable[[], None]]:
+        """What the page that leads may ask for, and that each one may lead."""
+        led = {"do": self.do, "stop": self.stop, "name": self.name, "walk": self.walk, "out": self.shut_out}
+        return {it: functools.partial(self.do_if_leading, call) for it, call in led.items()} | {"lead": self.lead}
+
+    def do_if_leading(self, call: typing.Callable[[], None]) -> None:
+        if self.server.devices and self.server.devices.leader != self.who():
+            raise Refused(409, "another device leads", ("Why", "sees"))
+        call()
+
+    def who(self) -> int:
+        """The number of the device that asks: this computer."""
+        return 0
 
     def answer(self, known: dict[str, typing.Callable[[], None]]) -> None:
         try:
@@ -259,17 +287,20 @@ class Handler(http.server.BaseHTTPRequestHandler):
         """What is asked for, where somebody asks who may."""
         if len(self.path) > LONGEST:
             raise Refused(414, "the address is too long")
-        said = {it: self.headers.get_all(it, []) for it in ("Host", "Origin", "Sec-Fetch-Site")}
-        is_own = len(said["Host"]) == 1 and said["Host"][0] in self.server.hosts
-        is_own &= all(it == f"http://{said['Host'][0]}" for it in said["Origin"]) if is_own else False
-        is_own &= all(it in OWN for it in said["Sec-Fetch-Site"])
         _, _, rest = self.path.partition("/")
         token, slash, what = rest.partition("/")
-        if not is_own or not hmac.compare_digest(token.encode(), self.server.token.encode()):
-            raise Refused(403, "refused: the page has the address that was printed when it was started")
+        self.refuse_others(hmac.compare_digest(token.encode(), self.server.token.encode()))
         if not slash:
             raise Refused(308, "the page is there", ("Location", f"/{self.server.token}/"))
         return what
+
+    def refuse_others(self, knows: bool) -> None:
+        """Refuses whoever asks from another page, or does not know the address."""
+        said = {it: self.headers.get_all(it, []) for it in ("Host", "Origin", "Sec-Fetch-Site")}
+        is_own = knows and len(said["Host"]) == 1 and said["Host"][0] in self.server.hosts
+        is_own = is_own and all(it == f"http://{said['Host'][0]}" for it in said["Origin"])
+        if not is_own or not all(it in OWN for it in said["Sec-Fetch-Site"]):
+            raise Refused(403, "refused: the page has the address that was printed when it was started")
 
     def body(self) -> dict[str, typing.Any]:
         lengths = self.headers.get_all("Content-Length", [])
@@ -324,6 +355,7 @@ class Handler(http.server.BaseHTTPRequestHandler):
             state["command"]["told"] = [texts.told(it, language) for it in state["command"]["said"]]
             state["command"]["reason"] = [*map(self.said, state["command"].get("reason", []))]
         state["trouble"] = "\n".join(map(self.said, (state["trouble"] or "").splitlines()))
+        state["devices"] = self.server.devices and self.server.devices.state(self.who())
         self.write(200, "application/json", json.dumps(state))
 
     def show_frames(self) -> None:
@@ -356,6 +388,20 @@ class Handler(http.server.BaseHTTPRequestHandler):
     def stop(self) -> None:
         self.body()
         self.bus.stop()
+        self.tell_state()
+
+    def lead(self) -> None:
+        self.body()
+        if not self.server.devices:
+            raise Refused(404, "nothing stands here")
+        self.server.devices.lead(self.who())
+        self.tell_state()
+
+    def shut_out(self) -> None:
+        number = self.body().get("number")
+        if self.who() or not self.server.devices or not isinstance(number, int):
+            raise Refused(404, "nothing stands here")
+        self.server.devices.shut_out(number)
         self.tell_state()
 
     def name(self) -> None:

@@ -7,6 +7,8 @@
 /* From the first edge of a frame: before its last one, and in the wait before the next frame. */
 #define MIDST 14000
 #define AFTER 30000
+/* From the end of a pair's first frame to the end of its second, as gear take it: 100 ms less a frame. */
+#define PAIR 86000
 
 static struct line *line_of(struct pins *pins)
 {
@@ -26,6 +28,11 @@ static void answer(struct line *line, const struct dali_told *read)
     struct troubles troubles = line->bus->troubles;
     struct told told = {DALI_HEARD_SILENCE, 0};
 
+    if (read->kind == DALI_NO_FRAME)
+        return;
+    for (uint32_t at = 0; line->now - line->read_at > PAIR && at < line->bus->gear_count; at++)
+        line->bus->gear[at].half_address = 0;
+    line->read_at = line->now;
     line->bus->troubles.destroyed = line->bus->troubles.lapsed = 0;
     if (read->kind == DALI_FORWARD_FRAME)
         told = bus_send(line->bus, read->bytes[0], read->bytes[1]);
@@ -114,10 +121,11 @@ uint8_t line_put(struct line *line, const struct dali_order *order, int is_destr
     return pins_send(&line->pins, order, chance_below(&line->bus->chance, 1201));
 }
 
-struct told line_wait(struct line *line)
+struct told line_wait(struct line *line, uint32_t most)
 {
-    int is_half = line->half <= line->halves && (int32_t)(line->half_at - line->compare) < 0;
-    uint32_t next = is_half ? line->half_at : line->compare;
+    uint32_t end = (int32_t)(line->compare - line->now) > (int32_t)most ? line->now + most : line->compare;
+    int is_half = line->half <= line->halves && (int32_t)(line->half_at - end) < 0;
+    uint32_t next = is_half ? line->half_at : end;
     struct dali_told read;
     struct told told;
 

@@ -14,6 +14,8 @@ struct line {
     uint8_t is_dead;
     /* The clock, the compare interrupt, and the last edge. */
     uint32_t now, compare, edge_at;
+    /* When a frame was read last. */
+    uint32_t read_at;
     uint8_t is_low, is_captured, is_driven, is_pulled, is_waiting, is_destroyed;
     /* What others pull low: so many half bits, the next one, and when it begins. */
     struct dali_levels others;
@@ -28,8 +30,9 @@ void line_begin(struct line *line, struct bus *bus);
 /* The port is to send a frame, which is destroyed or not. The status is that of dali_port_send. */
 uint8_t line_put(struct line *line, const struct dali_order *order, int is_destroyed);
 
-/* Time goes on to the next edge, or to what the port waits for, and its interrupt comes. What it has told, with input 0 if that is
- * nothing. */
-struct told line_wait(struct line *line);
+/* Time goes on to the next edge, to what the port waits for, or by so many us at most, and the port's interrupt comes. What it has
+ * told, with input 0 if that is nothing. */
+#define LINE_LONGEST UINT32_C(0x7FFFFFFF)
+struct told line_wait(struct line *line, uint32_t most);
 
 #endif

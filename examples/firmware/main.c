@@ -125,7 +125,7 @@ void stop_on_bus(void)
 static void loop(void)
 {
     while (node.state == NODE_ON_BUS && power() == 2) {
-        struct told told = line_wait(&line);
+        struct told told = line_wait(&line, LINE_LONGEST);
 
         if (told.input != 0)
             node_told(&node, told.input, told.byte);

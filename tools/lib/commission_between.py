@@ -10,7 +10,7 @@ PLAN is JSON:
                 driver has the frame. The copy's name has the number of the line, the short address and the search address
     kill        {pid, byte, count, moment, delay, is_cut}: the program is killed at the count-th frame with this address byte
                 (null: with any): `before` the driver has the frame, `unheard`, before the program is told of it, or `after`,
-                so many seconds later. Where it is_cut, the driver is killed with it
+                so many seconds later. Where it is_cut, the driver is killed with it; if pid is null, the driver alone is
     garbled     address byte and opcode byte of a frame: when the driver tells silence of it, the program is told `damaged`
     fault       {at, kind, text}: at this line, `text` is told in hexadecimal digits, and then no more where `kind` is `ends`.
                 `mute` tells nothing and waits, `stalls` does until its input ends, `closed` reads no more. Where `kind` is
@@ -106,7 +106,8 @@ class Between:
         self.driver = Simulated(words) if program == str(ADAPTERS / "simulated") else Driver(plan["driver"])
 
     def do_kill(self) -> typing.NoReturn:
-        os.kill(self.kill["pid"], signal.SIGKILL)
+        if self.kill["pid"]:
+            os.kill(self.kill["pid"], signal.SIGKILL)
         self.was_killed = True
         if self.kill["is_cut"]:
             self.driver.kill()

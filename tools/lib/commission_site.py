@@ -142,7 +142,7 @@ class Place:
                 how = {"stdin": from_between, "stdout": to_between, "stderr": err, "restore_signals": False, "env": os.environ | self.settings}
                 program = self.started([self.program, *map(str, words)], **how)
                 if plan.get("kill"):
-                    plan["kill"]["pid"] = program.pid
+                    plan["kill"].setdefault("pid", program.pid)
                 call = [sys.executable, "-S", str(BETWEEN), json.dumps(plan)]
                 between = self.started(call, stdin=from_program, stdout=to_program, stderr=other)
         finally:

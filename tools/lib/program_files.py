@@ -16,7 +16,7 @@ RUNS = ("yolgibat", "adapters", "include")
 # A launcher as it is called in a clone, in a text of a launcher or a tool.
 IN_CLONE = re.compile(rb"\./dali_(commission|sim|view)\b")
 # The pages for installers. What they lead to beside these and their pictures is left out, and so are the links to it.
-MANUALS = ("INSTALLER", "BUILDING", "ADAPTERS", "FORMAT", "STORES", "GLOSSARY", "PROMISE", "RULES")
+MANUALS = ("INSTALLER", "BUILDING", "ADAPTERS", "INTERFACE", "FORMAT", "STORES", "GLOSSARY", "PROMISE", "RULES")
 # The page on which scripts are played in a browser. It is taken along if it was made.
 TRY = ROOT / "out/web/try.html"
 LINK = re.compile(r"(?<!!)\[((?:[^\[\]]|\[[^\]]*\])*)\]\(((?!\w+:)[^)\s#]+)(?:#[^)\s]*)?\)")

@@ -46,7 +46,7 @@ class Target(typing.NamedTuple):
     package: str = ""
 
 
-ARM = [BARE / "support.c", BARE / "memory.c"], ["-T", BARE / "program.ld", "-e", "reset"]
+ARM = [BARE / "support.c", BARE / "aeabi.c", BARE / "memory.c"], ["-T", BARE / "program.ld", "-e", "reset"]
 LINUX = [BARE / "linux.c", BARE / "memory.c"], ["-e", "begin"]
 SYSTEM = "qemu-system-arm"
 # No instruction of a unit for floating point; and, as no number of that kind is handed over, a mark (Tag_ABI_VFP_args) by which linkers

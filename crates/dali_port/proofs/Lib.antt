@@ -1,6 +1,6 @@
 mod Levels
 mod Words
-mod Begins
+pub mod Begins
 mod Course
 mod Runs
 mod Ends

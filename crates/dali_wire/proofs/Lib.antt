@@ -1,12 +1,12 @@
-mod Values
+pub mod Values
 mod Spans
 mod Sound
 mod ReadBack
-mod EachTime
+pub mod EachTime
 mod OneFrame
 mod Asking
 mod Joint
-mod Sending
+pub mod Sending
 mod Worked
 mod Heard
 mod Rests

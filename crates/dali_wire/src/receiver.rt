@@ -1,6 +1,6 @@
-ghost use Rattle.std.specs.Prelude.{◌≡◌};
+ghost use Rattle.std.specs.Prelude.{◌≡◌, ◌&&◌, nat_le, nat_lt};
 ghost use Rattle.dali_wire.specs.Reception.{span_of, span_before, with_bit, read_edge, frame_of, frame_read, ended};
-ghost use Rattle.dali_wire.specs.Reception.{told_of, receiver_after, receiver_at, receiver_at_first};
+ghost use Rattle.dali_wire.specs.Reception.{longer, told_of, receiver_after, receiver_at, receiver_at_first};
 
 use dali_frame::Forward;
 
@@ -14,7 +14,7 @@ const LEAST_WHOLE: u32 = 667;
 const MOST_WHOLE: u32 = 1000;
 
 /// The least time of a stop condition, in µs, as a receiver takes it.
-const LEAST_STOP: u32 = 2400;
+pub(crate) const LEAST_STOP: u32 = 2400;
 
 /// What the time between two edges is.
 #[derive(Clone, Copy)]
@@ -96,10 +96,10 @@ fn span_for(micros: u32) -> Span
 fn span_before(was_low: bool, is_low: bool, since: u32) -> Span
     ensures { result ≡ span_before was_low is_low since }
 {
-    match (was_low, is_low) {
-        (true, false) | (false, true) => span_for(since),
-        (true, true) | (false, false) => Span::Wrong,
+    if was_low == is_low {
+        return Span::Wrong;
     }
+    span_for(since)
 }
 
 fn with_bit(bits: u32, is_low: bool) -> Reading
@@ -111,10 +111,17 @@ fn with_bit(bits: u32, is_low: bool) -> Reading
     Reading::Middle(if is_low { 2 * bits } else { 2 * bits + 1 })
 }
 
+/// Whether these bits are those of a backward frame.
+pub(crate) fn is_backward(bits: u32) -> bool
+    ensures { result ≡ (nat_le 0x100 bits && nat_lt bits 0x200) }
+{
+    0x100 <= bits && bits < 0x200
+}
+
 fn frame_for(bits: u32) -> Frame
     ensures { result ≡ frame_of bits }
 {
-    if 0x100 <= bits && bits < 0x200 {
+    if is_backward(bits) {
         Frame::Backward((bits % 256) as u8)
     } else if 0x10000 <= bits && bits < 0x20000 {
         Frame::Forward(Forward {
@@ -129,30 +136,6 @@ fn frame_for(bits: u32) -> Frame
 }
 
 impl Reading {
-    /// Where an edge stands that comes so long after the last one.
-    fn edge(self, is_low: bool, span: Span) -> Reading
-        ensures { result ≡ read_edge self is_low span }
-    {
-        match (self, span) {
-            (Reading::Idle, _) => {
-                if is_low {
-                    Reading::First
-                } else {
-                    Reading::Idle
-                }
-            }
-            (Reading::First, Span::Short) => Reading::Idle,
-            (Reading::First, Span::Half) => Reading::Middle(1),
-            (Reading::Middle(bits), Span::Half) => Reading::Between(bits),
-            (Reading::Middle(bits), Span::Whole) => with_bit(bits, is_low),
-            (Reading::Between(bits), Span::Half) => with_bit(bits, is_low),
-            (Reading::First, Span::Whole | Span::Wrong)
-            | (Reading::Middle(_), Span::Short | Span::Wrong)
-            | (Reading::Between(_), Span::Short | Span::Whole | Span::Wrong)
-            | (Reading::Spoilt, _) => Reading::Spoilt,
-        }
-    }
-
     /// What a stop condition ends.
     fn frame(self) -> Option<Frame>
         ensures { result ≡ frame_read self }
@@ -206,16 +189,52 @@ impl Receiver {
         ensures receiver { self.new ≡ receiver_after self.old is_low since }
     {
         let told = self.time(since);
-        self.lasted = match self.reading {
-            Reading::Idle => 0,
-            Reading::First | Reading::Between(_) | Reading::Middle(_) | Reading::Spoilt => {
-                self.lasted.saturating_add(since)
-            }
-        };
-        self.reading = self
-            .reading
-            .edge(is_low, span_before(self.is_low, is_low, since));
-        self.is_low = is_low;
+        self.turn(is_low, since);
         told
+    }
+
+    /// An edge so long after the last one, if no frame has ended.
+    pub(crate) fn turn(&mut self, is_low: bool, since: u32)
+        ensures { self.new ≡ record {
+          reading = read_edge self.old.reading is_low (span_before self.old.is_low is_low since);
+          is_low = is_low;
+          lasted = longer self.old.reading self.old.lasted since;
+        } }
+    {
+        let span = span_before(self.is_low, is_low, since);
+        self.is_low = is_low;
+        if matches!(self.reading, Reading::Idle) {
+            self.lasted = 0;
+        } else {
+            self.lasted = self.lasted.saturating_add(since);
+        }
+        match &mut self.reading {
+            Reading::Middle(bits) => {
+                let bits = *bits;
+                match span {
+                    Span::Half => self.reading = Reading::Between(bits),
+                    Span::Whole => self.reading = with_bit(bits, is_low),
+                    Span::Short | Span::Wrong => self.reading = Reading::Spoilt,
+                }
+            }
+            Reading::Between(bits) => {
+                let bits = *bits;
+                match span {
+                    Span::Half => self.reading = with_bit(bits, is_low),
+                    Span::Short | Span::Whole | Span::Wrong => self.reading = Reading::Spoilt,
+                }
+            }
+            Reading::First => match span {
+                Span::Short => self.reading = Reading::Idle,
+                Span::Half => self.reading = Reading::Middle(1),
+                Span::Whole | Span::Wrong => self.reading = Reading::Spoilt,
+            },
+            Reading::Idle => {
+                if is_low {
+                    self.reading = Reading::First;
+                }
+            }
+            Reading::Spoilt => {}
+        }
     }
 }

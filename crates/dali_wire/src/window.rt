@@ -1,8 +1,9 @@
-ghost use Rattle.std.specs.Prelude.{◌≡◌, ◌<◌, ◌&&◌, not, nat_lt, IsSome};
-ghost use Rattle.dali_wire.specs.Windows.{answer_in, heard_after, heard_beside, passed, answer_at, window_after};
+ghost use Rattle.std.specs.Prelude.{◌≡◌, ◌<◌, ◌&&◌, ◌||◌, not, nat_lt, Some, IsSome};
+ghost use Rattle.dali_wire.specs.Reception.{frame_of, receiver_at, told_of};
+ghost use Rattle.dali_wire.specs.Windows.{heard_after, heard_beside, passed, answer_at, window_after};
 ghost use Rattle.dali_wire.specs.Windows.{window_at, window_at_first};
 
-use crate::receiver::{Frame, Reading, Receiver, Told};
+use crate::receiver::{LEAST_STOP, Reading, Receiver, is_backward};
 use dali_frame::Answer;
 
 /// The time of a backward frame: it begins so many µs after the last edge of the forward frame, as a receiver takes it.
@@ -30,37 +31,14 @@ pub struct Window {
     pub has_pulse: bool,
 }
 
-fn answer(frame: Frame, begun: u32) -> Answer
-    ensures { result ≡ answer_in frame begun }
+/// What was heard, with what a stop condition has ended: these bits, which began so many µs after the forward frame.
+fn with(heard: Answer, bits: u32, begun: u32) -> Answer
+    ensures { result ≡ heard_after heard (Some (record { frame = frame_of bits; lasted = 0; since = 0 })) begun }
 {
-    match frame {
-        Frame::Backward(byte) if LEAST_BEGIN <= begun && begun <= MOST_BEGIN => Answer::Byte(byte),
-        Frame::Backward(_) | Frame::Forward(_) | Frame::Device(_) | Frame::Damaged =>
-            Answer::Damaged,
-    }
-}
-
-fn with(heard: Answer, told: Option<Told>, now: u32) -> Answer
-    ensures { result ≡ heard_after heard told now }
-{
-    match (told, heard) {
-        (None, _) => heard,
-        (Some(told), Answer::Silence) => answer(
-            told.frame,
-            now.saturating_sub(told.since).saturating_sub(told.lasted),
-        ),
-        (Some(_), _) => Answer::Damaged,
-    }
-}
-
-/// What was heard, after an edge by which the receiver passed over a low or did not: the first pulse changes nothing.
-fn beside(heard: Answer, is_passed_over: bool, is_pulse: bool, has_pulse: bool) -> Answer
-    ensures { result ≡ heard_beside is_passed_over is_pulse has_pulse heard }
-{
-    if !is_passed_over || is_pulse && !has_pulse {
-        heard
-    } else {
-        Answer::Damaged
+    let is_answer = is_backward(bits) && LEAST_BEGIN <= begun && begun <= MOST_BEGIN;
+    match heard {
+        Answer::Silence if is_answer => Answer::Byte((bits % 256) as u8),
+        Answer::Silence | Answer::Byte(_) | Answer::Damaged => Answer::Damaged,
     }
 }
 
@@ -77,12 +55,56 @@ impl Window {
         }
     }
 
-    /// Whether an edge, so long after the forward frame, may be the last one of that frame, told late: the bus is high
-    /// after it, no low was told before, and no backward frame may have begun.
-    fn is_echo(&self, is_low: bool, now: u32) -> bool
-        ensures { result ≡ (not self.now.receiver.is_low && not is_low && nat_lt now 2400 && not self.now.has_pulse) }
+    /// What has ended by now, so long after the last edge.
+    fn rest(&mut self, since: u32, now: u32)
+        ensures { self.new ≡ record self.old {
+          receiver = receiver_at self.old.receiver since;
+          heard = heard_after self.old.heard (told_of self.old.receiver since) now;
+        } }
     {
-        !self.receiver.is_low && !is_low && now < LEAST_BEGIN && !self.has_pulse
+        if self.receiver.is_low || since < LEAST_STOP {
+            return;
+        }
+        let begun = now
+            .saturating_sub(since)
+            .saturating_sub(self.receiver.lasted);
+        match self.receiver.reading {
+            Reading::Idle => {}
+            Reading::First => self.receiver.reading = Reading::Idle,
+            Reading::Between(bits) | Reading::Middle(bits) => {
+                self.heard = with(self.heard, bits, begun);
+                self.receiver.reading = Reading::Idle;
+            }
+            Reading::Spoilt => {
+                self.heard = Answer::Damaged;
+                self.receiver.reading = Reading::Idle;
+            }
+        }
+    }
+
+    /// Whether an edge may be the last one of the forward frame, told late: the bus is high before and after it, no low
+    /// was told before, and no backward frame may have begun.
+    fn is_echo(&self, was_low: bool, is_low: bool) -> bool
+        ensures { result ≡ (not was_low && not is_low && nat_lt self.now.elapsed 2400 && not self.now.has_pulse) }
+    {
+        !was_low && !is_low && self.elapsed < LEAST_BEGIN && !self.has_pulse
+    }
+
+    /// An edge after which the receiver is at rest. It has passed over a low, which damages what is heard but if it is
+    /// the first pulse; or the edge is an echo.
+    fn pass_over(&mut self, is_echo: bool, is_pulse: bool)
+        ensures { self.new ≡ record self.old {
+          heard = heard_beside (not is_echo) is_pulse self.old.has_pulse self.old.heard;
+          has_pulse = self.old.has_pulse || not is_echo;
+        } }
+    {
+        if is_echo {
+            return;
+        }
+        if self.has_pulse || !is_pulse {
+            self.heard = Answer::Damaged;
+        }
+        self.has_pulse = true;
     }
 
     /// An edge, after which the bus is low or high, so many µs after the last one; the first one after so many µs since
@@ -93,14 +115,14 @@ impl Window {
         ensures { self.new ≡ window_after self.old is_low since }
     {
         let now = self.elapsed.saturating_add(since);
-        let is_pulse = self.receiver.is_low && since < PULSE;
-        let is_echo = self.is_echo(is_low, now);
-        let told = self.receiver.edge(is_low, since);
-        let is_passed_over = matches!(self.receiver.reading, Reading::Idle) && !is_echo;
-        let heard = with(self.heard, told, now);
-        self.heard = beside(heard, is_passed_over, is_pulse, self.has_pulse);
-        self.has_pulse = self.has_pulse || is_passed_over;
+        self.rest(since, now);
+        let was_low = self.receiver.is_low;
+        self.receiver.turn(is_low, since);
         self.elapsed = now;
+        if matches!(self.receiver.reading, Reading::Idle) {
+            let is_echo = self.is_echo(was_low, is_low);
+            self.pass_over(is_echo, was_low && since < PULSE);
+        }
     }
 
     /// Time passes: so many µs have passed since the last edge. Tells what was heard once the window is over.
@@ -110,8 +132,7 @@ impl Window {
         ensures ends { 50000 < passed self.old since → IsSome result }
     {
         let now = self.elapsed.saturating_add(since);
-        let told = self.receiver.time(since);
-        self.heard = with(self.heard, told, now);
+        self.rest(since, now);
         match self.receiver.reading {
             Reading::Idle if now > MOST_BEGIN => Some(self.heard),
             _ if now > GIVEN_UP => Some(Answer::Damaged),

@@ -1,5 +1,4 @@
-/* What a bare Arm processor begins with, how a program on it writes and ends, and what compilers for it call by
- * themselves. */
+/* What a bare Arm processor begins with, and how a program on it writes and ends. */
 #include "support.h"
 
 #include <string.h>
@@ -7,12 +6,15 @@
 enum { WRITE = 0x04, EXIT = 0x18, ENDED = 0x20026, FAILED = 0x20023 };
 
 /* The stack of main, and of no call that is measured. */
-static uint64_t main_stack[64 * 1024 / 8];
+static __attribute__((section(".bss.main_stack"))) uint64_t main_stack[64 * 1024 / 8];
 
 __attribute__((noreturn)) void reset(void)
 {
     int main(void);
+    extern uint8_t zero_begin[], zero_end[];
 
+    /* A watchdog that begins anew leaves the memory as it is. */
+    memset(zero_begin, 0, (size_t)(zero_end - zero_begin));
 #ifdef __ARM_FP
     /* The unit for floating point is off at first. */
     *(volatile uint32_t *)0xE000ED88 |= UINT32_C(0xF) << 20;
@@ -26,19 +28,32 @@ static __attribute__((noreturn)) void fault(void)
     end(0);
 }
 
-/* The interrupt of the processor's timer, where a program has none of its own. */
+/* The interrupt of the processor's timer, that of a watchdog, and those of the first devices, where a program has none of its own. */
 __attribute__((weak)) void tick(void)
+{
+    fault();
+}
+
+__attribute__((weak)) void bark(void)
+{
+    fault();
+}
+
+__attribute__((weak)) void interrupt(void)
 {
     fault();
 }
 
 #define EACH(number) [number] = (uintptr_t)fault
 
-__attribute__((section(".vectors"), used)) static const uintptr_t vectors[16] = {
+__attribute__((section(".vectors"), used)) static const uintptr_t vectors[18] = {
     [0] = (uintptr_t)(main_stack + sizeof main_stack / sizeof *main_stack),
     [1] = (uintptr_t)reset,
-    EACH(2), EACH(3), EACH(4), EACH(5), EACH(6), EACH(11), EACH(12), EACH(14),
+    [2] = (uintptr_t)bark,
+    EACH(3), EACH(4), EACH(5), EACH(6), EACH(11), EACH(12), EACH(14),
     [15] = (uintptr_t)tick,
+    [16] = (uintptr_t)interrupt,
+    [17] = (uintptr_t)interrupt,
 };
 
 static void ask_host(uintptr_t what, uintptr_t argument)
@@ -58,69 +73,4 @@ __attribute__((noreturn)) void end(int is_right)
 {
     for (;;)
         ask_host(EXIT, is_right ? ENDED : FAILED);
-}
-
-/* Of the run-time ABI for the Arm architecture, where it is not the name of the same call above. */
-
-void __aeabi_memset(void *to, size_t count, int byte)
-{
-    memset(to, byte, count);
-}
-
-void __aeabi_memclr(void *to, size_t count)
-{
-    memset(to, 0, count);
-}
-
-/* By additions: what is written as four products of halves is made one call of this again. */
-uint64_t __aeabi_lmul(uint64_t one, uint64_t other)
-{
-    uint64_t product = 0;
-
-    for (; one != 0; one >>= 1, other += other)
-        product += one & 1 ? other : 0;
-    return product;
-}
-
-/* By halves: what is written as a shift of both is made one call of this again. */
-uint64_t __aeabi_llsl(uint64_t number, int count)
-{
-    uint32_t low = (uint32_t)number, high = (uint32_t)(number >> 32);
-
-    if (count >= 32)
-        return (uint64_t)(low << (count - 32)) << 32;
-    if (count > 0)
-        high = high << count | low >> (32 - count);
-    return (uint64_t)high << 32 | low << count;
-}
-
-uint64_t __aeabi_llsr(uint64_t number, int count)
-{
-    uint32_t low = (uint32_t)number, high = (uint32_t)(number >> 32);
-
-    if (count >= 32)
-        return high >> (count - 32);
-    if (count > 0)
-        low = low >> count | high << (32 - count);
-    return (uint64_t)(high >> count) << 32 | low;
-}
-
-/* The quotient, and the rest in the upper half. */
-uint64_t __aeabi_uidivmod(uint32_t number, uint32_t divisor)
-{
-    uint32_t quotient = 0, rest = 0;
-
-    for (int bit = 31; bit >= 0; bit--) {
-        rest = rest << 1 | (number >> bit & 1);
-        if (rest >= divisor) {
-            rest -= divisor;
-            quotient |= UINT32_C(1) << bit;
-        }
-    }
-    return (uint64_t)rest << 32 | quotient;
-}
-
-uint32_t __aeabi_uidiv(uint32_t number, uint32_t divisor)
-{
-    return (uint32_t)__aeabi_uidivmod(number, divisor);
 }

@@ -1,0 +1,6 @@
+mod Seen
+mod Spans
+mod Taken
+mod Begun
+mod Two
+mod Broken

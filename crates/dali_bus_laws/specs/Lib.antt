@@ -1,0 +1,4 @@
+pub mod Table
+pub mod Bus
+pub mod Pins
+pub mod Breaks
