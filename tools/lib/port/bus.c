@@ -66,6 +66,8 @@ struct host {
     uint8_t is_busy, is_begun;
     moment handed, begun, ended_pair;
     uint8_t last_input;
+    /* Whether an interrupt came too late since it began, and whether it is to be told as destroyed. */
+    uint8_t was_late, must_tell;
     /* Of a site. */
     struct dali_machine machine;
     struct dali_records records;
@@ -95,7 +97,7 @@ static uint32_t drawn[BUS_MOST_GEAR];
 static uint32_t ports, gear;
 static struct on_air sent[64];
 static uint32_t sent_count;
-static uint64_t wrongs, told[16], frames_told, reads, edges_total, lost_total, spiked;
+static uint64_t wrongs, told[16], garbled, frames_told, reads, edges_total, lost_total, spiked;
 static int is_site, is_loud, is_noisy, is_spiked, has_buttons, loses_power;
 
 static FILE *trace;
@@ -272,6 +274,20 @@ static int was_sent(uint16_t frame, moment begun)
     return 0;
 }
 
+/* Whether a sender whose interrupts come too late began then, and told that its frame was destroyed, or has still to. */
+static int is_destroyed(moment begun)
+{
+    for (uint32_t at = 0; at < ports; at++) {
+        struct host *it = &hosts[at];
+
+        if (it->was_late && it->begun + 300 >= begun && begun + 300 >= it->begun) {
+            it->must_tell |= it->is_busy && it->is_begun;
+            return it->must_tell || it->last_input == DALI_DESTROYED;
+        }
+    }
+    return 0;
+}
+
 static void gear_told(uint32_t at, const struct dali_told *frame, moment last)
 {
     struct reader *it = &readers[at];
@@ -282,8 +298,12 @@ static void gear_told(uint32_t at, const struct dali_told *frame, moment last)
     if (frame->kind != DALI_FORWARD_FRAME)
         return;
     it->taken[it->count++ % TAKEN] = (struct taken){last - lasted, bits};
-    if (!was_sent(bits, last - lasted))
-        wrong("a gear took a frame that no one sent", at, bits);
+    if (!was_sent(bits, last - lasted)) {
+        if (is_destroyed(last - lasted))
+            garbled++;
+        else
+            wrong("a gear took a frame that no one sent", at, bits);
+    }
     if (is_site && site.gear[at].half_address && last - it->half_at > 100000)
         site.gear[at].half_address = 0;
     it->half_at = last - lasted;
@@ -379,6 +399,7 @@ static uint32_t lateness(struct host *it)
 
     if (it->spikes && below(it->spikes) == 0) {
         spiked++;
+        it->was_late = 1;
         late += below(3000);
     }
     return late;
@@ -395,6 +416,7 @@ void pins_drive(struct pins *pins, uint8_t is_low, uint32_t at)
         is_low = pins->event.next;
     if (is_low && it->is_busy && !it->is_begun) {
         it->is_begun = 1;
+        it->was_late = 0;
         it->begun = now + it->length;
         note_sent(it->begun, (uint32_t)(it->order.address_byte << 8 | it->order.opcode_byte), 1);
         if (it->ended_pair && now - it->ended_pair < 99000)
@@ -461,6 +483,9 @@ void pins_tell(struct pins *pins, const struct dali_event *event)
     reads += event->read.kind != DALI_NO_FRAME;
     if (event->input == 0)
         return;
+    if (it->must_tell && event->input != DALI_DESTROYED)
+        wrong("a frame that gear took otherwise is not told as destroyed", (uint32_t)(it - hosts), frame_of(it));
+    it->must_tell = 0;
     told[event->input]++;
     frames_told++;
     if (!it->is_busy)
@@ -872,10 +897,10 @@ int main(int count, char **words)
         for (trial = 0; frames_told < many; trial++)
             try_frames(seed + trial);
     }
-    printf("%u trials, %llu frames: silence %llu, byte %llu, damaged %llu, destroyed %llu, lapsed %llu; %llu read, %llu edges, %llu overruns, %llu late\n",
+    printf("%u trials, %llu frames: silence %llu, byte %llu, damaged %llu, destroyed %llu, lapsed %llu; %llu read, %llu edges, %llu overruns, %llu late, %llu garbled\n",
            trial, (unsigned long long)frames_told, (unsigned long long)told[1], (unsigned long long)told[2], (unsigned long long)told[3],
            (unsigned long long)told[4], (unsigned long long)told[5], (unsigned long long)reads, (unsigned long long)edges_total,
-           (unsigned long long)lost_total, (unsigned long long)spiked);
+           (unsigned long long)lost_total, (unsigned long long)spiked, (unsigned long long)garbled);
     printf("%llu wrong\n", (unsigned long long)wrongs);
     return wrongs != 0;
 }
