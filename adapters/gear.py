@@ -1,7 +1,6 @@
 """Simulated control gear on a bus. They behave as docs/RULES.md says; a file keeps what gear keep over a loss of power.
 
-Six commands more are theirs, which the program never sends (IEC 62386-102:2014, from memory): DTR0, SET SHORT ADDRESS (DTR0) and RESET,
-by which a tool brings used gear back; DTR1 and READ MEMORY LOCATION (DTR1, DTR0), by which memory bank 0 is read; QUERY CONTROL GEAR PRESENT.
+docs/ADAPTERS.md has the commands that they know beside, from memory of IEC 62386-102:2014.
 """
 
 import argparse
@@ -136,12 +135,6 @@ class Gear:
         if data == 0:
             self.state = DISABLED
 
-    def set_dtr0(self, data: int, _draw: Draw) -> None:
-        self.dtr0 = data
-
-    def set_dtr1(self, data: int, _draw: Draw) -> None:
-        self.dtr1 = data
-
     def initialise(self, data: int, _draw: Draw) -> None:
         if data in (0, self.short_byte()):
             self.state = ENABLED
@@ -156,15 +149,6 @@ class Gear:
     def withdraw(self, data: int, _draw: Draw) -> None:
         if data == 0 and self.state == ENABLED and self.is_found():
             self.state = WITHDRAWN
-
-    def search_high(self, data: int, _draw: Draw) -> None:
-        self.take_search(16, data)
-
-    def search_middle(self, data: int, _draw: Draw) -> None:
-        self.take_search(8, data)
-
-    def search_low(self, data: int, _draw: Draw) -> None:
-        self.take_search(0, data)
 
     def take_search(self, place: int, data: int) -> None:
         if self.is_active():
@@ -183,17 +167,15 @@ class Gear:
 
 COMMANDS: dict[int, collections.abc.Callable[[Gear, int, Draw], int | None]] = {
     0xA1: Gear.terminate,
-    0xA3: Gear.set_dtr0,
+    0xA3: lambda it, data, _: setattr(it, "dtr0", data),
     INITIALISE: Gear.initialise,
     RANDOMISE: Gear.randomise,
     COMPARE: Gear.compare,
     0xAB: Gear.withdraw,
-    0xB1: Gear.search_high,
-    0xB3: Gear.search_middle,
-    0xB5: Gear.search_low,
+    **{byte: lambda it, data, _, place=place: it.take_search(place, data) for byte, place in ((0xB1, 16), (0xB3, 8), (0xB5, 0))},
     0xB7: Gear.program,
     VERIFY: Gear.verify,
-    0xC3: Gear.set_dtr1,
+    0xC3: lambda it, data, _: setattr(it, "dtr1", data),
     QUERY_SHORT: Gear.query_short,
 }
 

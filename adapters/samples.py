@@ -10,9 +10,8 @@ import typing
 
 # Half bits a second, and what one takes.
 HALVES, HALF = 2400, 417
-# What a receiver takes as a half bit and as two (crates/dali_wire), and what the standard lets a sender send as a half bit, from memory.
-TAKEN = (334, 500), (667, 1000)
-SENT = 366.7, 466.7
+# How many samples a half bit has at least: so each bit that the standard allows is read, and what was sent is read back sharply enough.
+LEAST = 11
 # A low or a high of the own frame that is off by less is still one that gear take: 500 less 417.
 OFF = 83
 # An edge of the own frame is read back so much later at most.
@@ -30,23 +29,6 @@ def at_least(time: int, speed: int) -> int:
     return -(-time * speed // 1_000_000)
 
 
-def counts(least: int, most: int, speed: int) -> tuple[int, int]:
-    """The fewest and the most samples between two edges of which each time that is told lies between two."""
-    fewest, many = at_least(least, speed), most * speed // 1_000_000
-    fewest += fewest * 1_000_000 // speed < least
-    return fewest, many - (-(-many * 1_000_000 // speed) > most)
-
-
-def slack(speed: int) -> float:
-    """By how many microseconds a low or a high of a frame may be off, beside the bit times that the standard lets a sender have, and each
-    bit is still read. Below 0 some frames are not read."""
-    found = []
-    for number, taken in enumerate(TAKEN, 1):
-        fewest, most = counts(*taken, speed)
-        found += [number * SENT[0] - fewest * 1_000_000 / speed, most * 1_000_000 / speed - number * SENT[1]]
-    return min(found)
-
-
 def sharpness(speed: int) -> int:
     """By how many samples a low or a high of the own frame may differ from what was sent: each that gear may not take differs by more.
     Below 1 it cannot be told from one that begins between two samples."""
@@ -57,9 +39,7 @@ def refusal(speed: int) -> str | None:
     """Why this is no speed, or None."""
     if speed % HALVES:
         return f"a half bit has no whole number of samples: take a multiple of {HALVES}"
-    if slack(speed) < 0:
-        return "bits that the standard allows are not read at it"
-    return "what was sent is not read back sharply enough at it" if sharpness(speed) < 1 else None
+    return f"a half bit has fewer than {LEAST} samples at it" if speed < LEAST * HALVES else None
 
 
 class Samples(typing.NamedTuple):

@@ -1,13 +1,4 @@
-"""All that a user runs, but the programs; what makes these is in tools/, of which nothing is imported here.
-
-command                            the command line; it loads what a call wants
-programs, launch, call_words, helps    where a program is, and what it takes by its help
-joining, relay, telling, forked    a program and its driver, and what is told of their frames
-page, serving, commanding, following, walking, texts    the page of a bus, and its commands
-building, building_page            many buses
-places, marks, serials, terminal   what is kept beside the records, and asked for on a terminal
-story, viewer, dump, drawn, anew, auditing    stories, what is drawn of them, and captures
-"""
+"""All that a user runs, but the programs; what makes these is in tools/, of which nothing is imported here."""
 
 import pathlib
 import sys

@@ -162,7 +162,6 @@ def records_of(table: Table, block: str) -> list[tuple[str, str]]:
 
 
 def entry_of(table: Table, defaults: dict[str, typing.Any]) -> Entry:
-    """A bus."""
     table.check_keys(BUS)
     table.found = defaults | table.found
     name, title, others = table.text("name"), table.text("driver"), table.found.get("others", [])
@@ -323,7 +322,6 @@ class Job:
         self.rows = places.rows([rows[it] for it in sorted(rows)], names)
 
     def status(self) -> int:
-        """The worst one."""
         return max(self.statuses, default=0)
 
     def far(self) -> list[str]:
@@ -491,7 +489,6 @@ def told(change: dict[str, typing.Any]) -> str:
 def written(
     chosen: argparse.Namespace, building: Building, jobs: list[Job], changes: list[dict[str, typing.Any]] | None, status: int
 ) -> str:
-    """What is written on standard output."""
     if chosen.csv:
         return places.as_csv(table_of(jobs), "bus", is_german=chosen.csv == command.GERMAN)
     if chosen.json:

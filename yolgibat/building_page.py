@@ -8,7 +8,7 @@ import re
 import typing
 import zlib
 
-from yolgibat import ROOT, building, command, commanding, places, serving, texts
+from yolgibat import ROOT, building, command, commanding, places, serving
 
 PAGE = ROOT / "yolgibat/building.html"
 # The page of a bus below that of its building: its number, and what is asked for there.
@@ -91,12 +91,9 @@ class Bus(commanding.Bus):
 
 
 class Server(serving.Server):
-    """The server of a building."""
-
     def __init__(self, name: str, them: list[Bus], port: int, token: str) -> None:
-        self.name, self.buses, self.way, page = name, them, them[0].way, serving.source(PAGE)
-        self.building_pages = {it: serving.filled(page, it) for it in texts.languages()}
-        self.building_policy = serving.policy(page)
+        self.name, self.buses, self.way = name, them, them[0].way
+        self.building_pages, self.building_policy = serving.prepared(PAGE)
         super().__init__(None, port, token, Handler)
 
     def stamp(self) -> str:

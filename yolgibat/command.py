@@ -53,8 +53,10 @@ class BadWord(Exception):
 class Options(argparse.ArgumentParser):
     """The words of a task of the front, of which what is wrong is told as of all other words."""
 
-    def __init__(self, prog: str) -> None:
+    def __init__(self, prog: str, **options: dict[str, typing.Any]) -> None:
         super().__init__(prog=prog, add_help=False, allow_abbrev=False)
+        for name, how in options.items():
+            self.add_argument(f"--{name.replace('_', '-')}", **how)
 
     def error(self, message: str) -> typing.NoReturn:
         lacks = re.fullmatch(r"the following arguments are required: (.*)", message)
@@ -165,38 +167,31 @@ def over_driver(options: Options, words: list[str]) -> argparse.Namespace:
     return chosen
 
 
+# What options are, and those that several tasks have.
+FLAG, WANTED, MANY = {"action": "store_true"}, {"required": True}, {"action": "append"}
+OTHERS, PORT = {"action": "append", "type": block_of, "default": []}, {"type": port_of, "default": 0}
+
+
 def of_page(words: list[str]) -> argparse.Namespace:
-    """What a page is to be of."""
-    options = Options("dali_commission page")
-    options.add_argument("--records", action="append", required=True)
-    options.add_argument("--others", action="append", type=block_of, default=[])
-    options.add_argument("--port", type=port_of, default=0)
-    options.add_argument("--open", action="store_true")
-    options.add_argument("--listen", type=host_of)
-    options.add_argument(EXPECT, action="append")
-    options.add_argument("--program")
+    options = Options(
+        "dali_commission page", records=MANY | WANTED, others=OTHERS, port=PORT, open=FLAG, listen={"type": host_of}, expect=MANY, program={}
+    )
     options.add_argument("block", nargs="?", type=block_of, default="0-63")
     return over_driver(options, words)
 
 
 def of_asking(words: list[str]) -> argparse.Namespace:
     """The port, and whether a browser is started, if the page is to ask for all else."""
-    options = Options("dali_commission page")
-    options.add_argument("--ask", action="store_true", required=True)
-    options.add_argument("--port", type=port_of, default=0)
-    options.add_argument("--open", action="store_true")
-    return options.parse_args(words)
+    return Options("dali_commission page", ask=FLAG | WANTED, port=PORT, open=FLAG).parse_args(words)
 
 
 def of_places(words: list[str]) -> argparse.Namespace:
     """What is to be done with places: `table --names`, or `identify --all`."""
-    options = Options("dali_commission")
+    options = Options("dali_commission", records=WANTED, program={}, names=FLAG, all=FLAG)
     options.add_argument("task", choices=["table", "identify"])
-    options.add_argument("--records", required=True)
-    options.add_argument("--program")
     form = options.add_mutually_exclusive_group()
-    for name in ("csv", "json", "names", "all"):
-        (form if name in ("csv", "json") else options).add_argument(f"--{name}", action="store_true")
+    for name in ("--csv", "--json"):
+        form.add_argument(name, **FLAG)
     rest, given = parted([it for it in words if it != CSV], *DRIVER)
     chosen = options.parse_args([*rest, *(["--names", "--csv"] if CSV in words else [])])
     chosen.csv = GERMAN if CSV in words else chosen.csv
@@ -210,29 +205,17 @@ def of_places(words: list[str]) -> argparse.Namespace:
 
 
 def of_serials(words: list[str]) -> argparse.Namespace:
-    """What `check --serials` is to read."""
-    options = Options("dali_commission check")
+    options = Options("dali_commission check", serials=FLAG | WANTED, records=WANTED, others=OTHERS, json=FLAG, program={})
     options.add_argument("task", choices=["check"])
-    options.add_argument("--serials", action="store_true", required=True)
-    options.add_argument("--records", required=True)
-    options.add_argument("--others", action="append", type=block_of, default=[])
-    options.add_argument("--json", action="store_true")
-    options.add_argument("--program")
     return over_driver(options, words)
 
 
 def of_building(words: list[str]) -> argparse.Namespace:
     """What is to be done in a building."""
-    options = Options("dali_commission building")
+    path, flags = {"type": os.path.abspath}, dict.fromkeys(("json", "csv", "open", "yes"), FLAG)
+    numbers = {"at_once": {"type": count_of}, "port": PORT, "missing": MANY | {"default": []}}
+    options = Options("dali_commission building", building=WANTED | {"type": pathlib.Path}, since=path, program=path, **numbers, **flags)
     options.add_argument("task", choices=OF_BUILDING)
-    options.add_argument("--building", required=True, type=pathlib.Path)
-    options.add_argument("--at-once", type=count_of)
-    options.add_argument("--since", type=os.path.abspath)
-    options.add_argument("--port", type=port_of, default=0)
-    options.add_argument("--program", type=os.path.abspath)
-    options.add_argument("--missing", action="append", default=[])
-    for name in ("json", "csv", "open", "yes"):
-        options.add_argument(f"--{name}", action="store_true")
     options.add_argument("bus", nargs="*")
     chosen = options.parse_intermixed_args(["--csv" if it == CSV else it for it in words])
     chosen.csv = GERMAN if CSV in words else chosen.csv
@@ -262,7 +245,6 @@ def become(*words: str | os.PathLike[str]) -> typing.NoReturn:
 
 
 def show(*names: str) -> typing.NoReturn:
-    """Writes texts of the help."""
     from yolgibat import helps
 
     sys.exit(standard.ended(helps.text_of(*names), 0))
@@ -285,7 +267,6 @@ def answer(launcher: str, words: list[str]) -> None:
 
 
 def refuse(launcher: str) -> int:
-    """Says what a launcher takes."""
     from yolgibat import helps
 
     standard.say(helps.text_of(*TEXTS[launcher]), "")
@@ -452,25 +433,18 @@ def draw(kind: str, words: list[str]) -> int:
 
 def of_audit(words: list[str]) -> tuple[str, dict[str, str], list[str]]:
     """The capture of an audit, the files of `--bench` and `--story`, and the words of the program."""
-    found, files, rest, left = None, {}, [], list(words)
-    while left:
-        word = left.pop(0)
-        if word in ("--bench", "--story", "--wire"):
-            if not left or not left[0]:
-                raise BadWord(f"`{word}` takes a {'name' if word == '--wire' else 'file'}")
-            value = left.pop(0)
-            files, rest = (files, [*rest, word, value]) if word == "--wire" else ({**files, word: value}, rest)
-        elif word.startswith("--"):
-            rest.append(word)
-        elif found is not None:
-            raise BadWord(f"`audit` takes one capture, and not '{word}' too")
-        else:
-            found = word
-    if not found:
+    rest, given = parted(words, "--bench", "--story", "--wire")
+    if lacks := next((it for it, values in given.items() if "" in values), None):
+        raise BadWord(f"`{lacks}` takes a {'name' if lacks == '--wire' else 'file'}")
+    captures, wires = [it for it in rest if not it.startswith("--")], [word for it in given.pop("--wire") for word in ("--wire", it)]
+    files = {name: values[-1] for name, values in given.items() if values}
+    if not captures:
         raise BadWord("`audit` takes a capture: ./dali_sim audit CAPTURE")
-    if found == "-" and files:
+    if captures[1:]:
+        raise BadWord(f"`audit` takes one capture, and not '{captures[1]}' too")
+    if captures == ["-"] and files:
         raise BadWord(f"with `{next(iter(files))}` the capture is a file")
-    return found, files, rest
+    return captures[0], files, [*wires, *(it for it in rest if it.startswith("--"))]
 
 
 LAUNCHERS = {COMMISSION: commission, SIMULATE: simulate, VIEW: view}

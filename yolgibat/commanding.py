@@ -10,7 +10,7 @@ import threading
 import time
 import typing
 
-from yolgibat import ROOT, following, forked, joining, marks, places, serials, telling, texts
+from yolgibat import ROOT, apart, following, joining, marks, places, serials, telling, texts
 
 if typing.TYPE_CHECKING:
     from yolgibat import walking
@@ -176,13 +176,13 @@ class Command:
 
     def __init__(
         self, site: Site, number: int, name: str, address: int | None, words: list[str], kept: tuple[int, ...],
-        before: "tuple[Command, ...]" = (), left: forked.Left | None = None,
+        before: "tuple[Command, ...]" = (), left: apart.Left | None = None,
     ) -> None:
         self.number, self.name, self.address, self.said, self.before, self.begun = number, name, address, [], before, left.begun if left else time.time()
         self.status = self.ended = None
         self.is_stopped, self.report, self.lock, self.missing = False, {}, threading.Lock(), missing_in(words)
         self.story, self.follower = left.story if left else os.memfd_create("story"), following.Follower()
-        self.process = left or forked.Process([[site.program, *words], site.driver, site.seconds, name == "identify"], (self.story, *kept))
+        self.process = left or apart.Process([[site.program, *words], site.driver, site.seconds, name == "identify"], (self.story, *kept))
 
     def follow(self) -> None:
         """Hears what it says until it has ended."""
@@ -194,7 +194,7 @@ class Command:
         self.process.wait()
         self.ended = time.time()
         self.status = self.process.returncode if self.process.returncode >= 0 else STOPPED - self.process.returncode
-        if isinstance(self.process, forked.Left):
+        if isinstance(self.process, apart.Left):
             # How a run stands is all that its story tells of its end.
             self.status = next((status for status, name in telling.STANDS.items() if [name] == self.followed().stands), STOPPED)
 
@@ -388,7 +388,7 @@ class Bus:
         threading.Thread(target=self.follow, args=(self.command, old), daemon=True).start()
         return self.command
 
-    def go_on(self, left: forked.Left) -> None:
+    def go_on(self, left: apart.Left) -> None:
         """Follows a command that an earlier page began."""
         address = next((int(it) for it in left.words if it.isdigit()), None) if left.words[0] != "run" else None
         self.command = Command(self.site, 0, left.words[0], address, left.words, (), left=left)
@@ -410,7 +410,6 @@ class Bus:
             os.close(story)
 
     def walking(self) -> "walking.Walk | None":
-        """The walk that goes on."""
         if self.walk and not self.walk.is_on:
             self.walked = {"done": len(self.walk.done), "left": len(self.walk.left)}
             self.walk, self.turns = None, self.walk.turn + 1
@@ -447,7 +446,6 @@ class Bus:
             return None
 
     def rest(self) -> None:
-        """Nothing goes on any more."""
         self.idle.set()
 
     def take(self, command: Command, old: str | None) -> None:
@@ -515,7 +513,6 @@ class Bus:
         self.silent, self.missing, self.there = self.silent - asked | missed, self.missing - (asked - missed), self.there - missed
 
     def stop(self) -> None:
-        """Stops what goes on, and the walk."""
         with self.lock:
             if self.walking():
                 self.walk.end()
@@ -571,7 +568,6 @@ class Bus:
         return found | {it: ("given-now", random) for it, random in told.given.items()} | {it: ("unclear-now", None) for it in told.unclear}
 
     def state(self) -> dict[str, typing.Any]:
-        """All that a page shows."""
         with self.lock:
             self.refresh()
             trouble, them, spare = self.trouble, [], []

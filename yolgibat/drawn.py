@@ -9,7 +9,6 @@ BAD_STORY, FAILED = 1, 3
 
 
 def trace(raw: bytes) -> bytes:
-    """The dump of a story."""
     return dump.of(story.read(raw)).encode("ascii")
 
 
@@ -18,7 +17,6 @@ KINDS = {"page": viewer.fill, "trace": trace}
 
 
 def write(text: bytes) -> int:
-    """Writes to standard output."""
     try:
         while text:
             text = text[os.write(1, text) :]
@@ -29,7 +27,6 @@ def write(text: bytes) -> int:
 
 
 def draw_story(kind: str, name: str) -> int:
-    """Draws the story in a file."""
     try:
         with open(0 if name == "-" else name, "rb") as file:
             raw = file.read(story.LONGEST + 1)

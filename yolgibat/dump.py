@@ -112,7 +112,6 @@ class Dump:
         self.at += len(lows)
 
     def take(self, event: story.Line) -> None:
-        """Draws an event."""
         kind = event["kind"]
         if kind == "acted" and event["order"] == "put":
             self.asked[event.get("controller")] = event.get("priority", LATER)
@@ -158,7 +157,6 @@ def heard_of(event: story.Line) -> str:
 
 
 def of(told: story.Story) -> str:
-    """The dump of a story."""
     drawn, texts = Dump(told.head["source"]), []
     for event in told.events():
         drawn.take(event)

@@ -2,7 +2,6 @@
 and how long it still takes."""
 
 import json
-import os
 import re
 import threading
 import time
@@ -48,7 +47,6 @@ class Follower:
         self.search, self.programmed, self.first, self.asks = ["FF"] * 3, None, None, False
 
     def take(self, lines: bytes) -> None:
-        """Takes more of a story, whole lines."""
         self.bytes += len(lines)
         for line in lines.splitlines():
             self.take_event(json.loads(line))

@@ -5,19 +5,17 @@ first one waits for the answer that is awaited, and then ends the program's inpu
 not end, and so is a second one that is not the same within 0.3 seconds."""
 
 import contextlib
-import json
 import math
 import os
 import re
 import signal
 import subprocess
-import sys
 import threading
 import time
 import types
 import typing
 
-from yolgibat import ROOT, relay, telling
+from yolgibat import relay, telling
 from yolgibat.standard import UNWRITTEN, say
 
 if typing.TYPE_CHECKING:
@@ -35,8 +33,6 @@ ANSWERS = 10
 AT_FAULT, NOT_STARTED = 4, 127
 # What a program says if its input ends, as it does when a signal asks for an end in order.
 INPUT_ENDED = re.compile(rb"error: line \d+ of the driver: end of input\n?")
-# A process that joins: behind it stand the folder of this package, and what `join` takes as JSON.
-ALONE = "import json, sys; sys.path[0] = sys.argv[1]; from yolgibat import joining; sys.exit(joining.join(*json.loads(sys.argv[2])))"
 
 
 class Signals:
@@ -157,11 +153,6 @@ def say_end(title: str, driver: subprocess.Popen[bytes], fault: relay.Fault | No
         say(f"{title}: the driver closed its standard input or output {fault}")
     elif fault:
         say(f"{title}: {fault}")
-
-
-def alone(program: list[str], driver: list[str], seconds: float, is_gentle: bool) -> list[str]:
-    """The words of a process of its own that joins these two."""
-    return [sys.executable, "-S", "-c", ALONE, str(ROOT), json.dumps([program, driver, seconds, is_gentle])]
 
 
 def join(

@@ -18,7 +18,7 @@ import threading
 import time
 import typing
 
-from yolgibat import ROOT, serving, standard, texts
+from yolgibat import ROOT, serving, standard
 
 PAGE = ROOT / "yolgibat/join.html"
 # How many wrong codes there may be, how many seconds each takes, how many devices there may be, and how long a name is.
@@ -116,10 +116,7 @@ class Server(serving.Server):
     """What devices ask. It has the pages and the bus of the computer's own server."""
 
     def __init__(self, own: serving.Server, host: str) -> None:
-        page = serving.source(PAGE)
-        self.own = own
-        self.join_pages = {it: serving.filled(page, it) for it in texts.languages()}
-        self.join_policy = serving.policy(page)
+        self.join_pages, self.join_policy = serving.prepared(PAGE)
         super().__init__(own.bus, own.server_address[1], "", Handler, host)
         own.devices = self.devices = Devices(f"http://{self.hosts[0]}/")
 

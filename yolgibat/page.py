@@ -13,7 +13,7 @@ import pathlib
 import threading
 import typing
 
-from yolgibat import ROOT, command, commanding, forked, joining, listening, programs, serving, standard, texts
+from yolgibat import ROOT, apart, command, commanding, joining, listening, programs, serving, standard
 
 BAD_WORD, NO_RECORDS = 2, 5
 PAGE = ROOT / "yolgibat/choose.html"
@@ -24,10 +24,8 @@ class Server(serving.Server):
     """The server of a page that asks for the file of the records, the driver and the block, until they are chosen: then it is that of the bus."""
 
     def __init__(self, program: str, port: int, token: str) -> None:
-        page = serving.source(PAGE)
         self.program, self.choice = program, threading.Lock()
-        self.choose_pages = {it: serving.filled(page, it) for it in texts.languages()}
-        self.choose_policy = serving.policy(page)
+        self.choose_pages, self.choose_policy = serving.prepared(PAGE)
         super().__init__(None, port, token, Handler)
 
     def choose(self, asked: dict[str, typing.Any]) -> None:
@@ -55,8 +53,6 @@ class Server(serving.Server):
 
 
 class Handler(serving.Handler):
-    """One request."""
-
     def answer(self, known: dict[str, collections.abc.Callable[[], None]]) -> None:
         super().answer(known if self.bus else {"GET": {"": self.show_choice}, "POST": {"choose": self.choose}}[self.command])
 
@@ -74,7 +70,7 @@ def bus_of(chosen: argparse.Namespace, program: str, opened: typing.TextIO) -> c
     site = commanding.Site(program, chosen.records, chosen.others, chosen.block, chosen.driver, chosen.seconds, chosen.title, expected)
     bus = commanding.Bus(site, (opened.fileno(),))
     bus.read_table()
-    if left := forked.left_of(opened):
+    if left := apart.left_of(opened):
         bus.go_on(left)
     else:
         fcntl.flock(opened, fcntl.LOCK_EX)

@@ -132,21 +132,6 @@ def safe(text: str) -> str:
     return f"'{text}" if FORMULA.match(text) else text
 
 
-def of_csv(text: str) -> list[Row]:
-    """The gear of a table that was written as comma-separated values, with places or without, also with random addresses as they are."""
-    rows = list(csv.DictReader(io.StringIO(text.removeprefix(MARK)), delimiter=";" if text.startswith(MARK) else ","))
-    places = [it.get("place") or "" for it in rows]
-    return [
-        {"address": int(it["address"]), "random": it["random"].removeprefix(HEXADECIMAL), "place": (place[1:] if is_safe(place) else place) or None}
-        for it, place in zip(rows, places)
-    ]
-
-
-def is_safe(text: str) -> bool:
-    """Whether a text has an apostrophe before it that is not its own."""
-    return text.startswith("'") and bool(FORMULA.match(text))
-
-
 def as_json(them: list[Row]) -> str:
     lines = ",\n".join(json.dumps(it, ensure_ascii=False, separators=(",", ":")) for it in them)
     return f"[\n{lines}\n]\n"

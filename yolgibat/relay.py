@@ -16,8 +16,6 @@ PUT = b"put "
 LONGEST = SHOWN = 16
 # How much is read at once of a program, and of a driver.
 MUCH, LITTLE = 65536, 64
-# How many seconds a program has to end by itself after the first signal.
-PATIENCE = 2
 
 
 class Fault(Exception):
@@ -82,7 +80,6 @@ class Relay:
         return is_stopped or self.fault is not None or not self.is_awaited() or bool(self.told)
 
     def is_awaited(self) -> bool:
-        """Whether a frame waits for its answer."""
         return self.until < math.inf
 
     def turn(self) -> None:

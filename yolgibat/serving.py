@@ -34,7 +34,8 @@ LOOKS = 0.2
 KEPT = re.compile(r"http://127\.0\.0\.1:([0-9]{1,5})/([A-Za-z0-9_-]{32})/")
 # Who may ask: a browser says where a request comes from.
 OWN = ("same-origin", "none")
-# What is put in a page: what all pages have in common, its language, and its texts as JSON.
+# What stands around all pages, and what is put in: the page, what all have in common, its language, and its texts as JSON.
+FRAME, OWN_PART = ROOT / "yolgibat/frame.html", "/*PAGE*/"
 COMMON = {"/*STYLE*/": ROOT / "yolgibat/page.css", "/*COMMON*/": ROOT / "yolgibat/page.js"}
 LANGUAGE, TEXTS = '<html lang="en">', "/*TEXTS*/"
 
@@ -61,7 +62,7 @@ def policy(page: str) -> str:
 
 def source(file: pathlib.Path) -> str:
     """A page in no language."""
-    text = file.read_text(encoding="utf-8")
+    text = FRAME.read_text(encoding="utf-8").replace(OWN_PART, file.read_text(encoding="utf-8"), 1)
     for mark, common in COMMON.items():
         text = text.replace(mark, common.read_text(encoding="utf-8"), 1)
     return text
@@ -71,6 +72,12 @@ def filled(page: str, language: str) -> str:
     """The page in a language."""
     words = json.dumps(texts.of(language), ensure_ascii=False).replace("<", "\\u003c")
     return page.replace(LANGUAGE, f'<html lang="{language}">', 1).replace(TEXTS, words, 1)
+
+
+def prepared(file: pathlib.Path) -> tuple[dict[str, str], str]:
+    """A page in each language, and what it may do."""
+    page = source(file)
+    return {it: filled(page, it) for it in texts.languages()}, policy(page)
 
 
 class Kept(typing.NamedTuple):
@@ -155,8 +162,6 @@ def serve(
 
 
 class Server(http.server.ThreadingHTTPServer):
-    """The server of one page."""
-
     daemon_threads, request_queue_size = True, 64
 
     # The devices on the network that were let in, if any may be.
@@ -168,9 +173,8 @@ class Server(http.server.ThreadingHTTPServer):
         self.bus, self.token, self.lanes = bus, token or secrets.token_urlsafe(24), threading.BoundedSemaphore(LANES)
         # The connections whose request is not whole yet, the oldest first.
         self.half_open, self.lock = {}, threading.Lock()
-        page = source(PAGE)
-        self.pages = {it: filled(page, it) for it in texts.languages()}
-        self.policy, self.viewer_policy = policy(page), policy(story.VIEWER.read_text(encoding="utf-8"))
+        self.pages, self.policy = prepared(PAGE)
+        self.viewer_policy = policy(story.VIEWER.read_text(encoding="utf-8"))
         super().__init__((host, port), handler or Handler)
         self.hosts = [f"{it}:{self.server_address[1]}" for it in ((host, "localhost") if host == LOOPBACK else (host,))]
 
@@ -228,13 +232,10 @@ class Server(http.server.ThreadingHTTPServer):
 
 
 class Handler(http.server.BaseHTTPRequestHandler):
-    """One request."""
-
     timeout, server_version, sys_version = PATIENCE, "page", ""
 
     @property
     def bus(self) -> commanding.Bus:
-        """The bus that is asked about."""
         return self.server.bus
 
     def log_message(self, *_: typing.Any) -> None:
@@ -302,7 +303,6 @@ class Handler(http.server.BaseHTTPRequestHandler):
             raise Refused(403, "refused: the page has the address that was printed when it was started")
 
     def body(self) -> dict[str, typing.Any]:
-        """The object that a request brings."""
         lengths = self.headers.get_all("Content-Length", [])
         if len(lengths) != 1 or not re.fullmatch(r"[0-9]{1,6}", lengths[0]) or "Transfer-Encoding" in self.headers:
             raise Refused(411, "one length is wanted")

@@ -179,9 +179,9 @@ class Reader:
         return line
 
     def parsed(self, raw: bytes) -> Line:
-        """The object that a line is."""
         try:
-            line = json.loads(raw.decode("utf-8"), parse_constant=self.refuse)
+            # What JSON has not, as NaN, is no number.
+            line = json.loads(raw.decode("utf-8"), parse_constant=int)
         except UnicodeDecodeError:
             raise Bad(self.number, "this is no UTF-8") from None
         except (ValueError, RecursionError):
@@ -189,10 +189,6 @@ class Reader:
         if not isinstance(line, dict):
             raise Bad(self.number, f"{shown(line)} is no JSON object")
         return line
-
-    @staticmethod
-    def refuse(word: str) -> typing.NoReturn:
-        raise ValueError(word)
 
     def judge(self, kind: str, line: Line) -> None:
         """Whether a line is one of its kind, in its place."""

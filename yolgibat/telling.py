@@ -53,7 +53,6 @@ def command_of(frame: int) -> str:
 
 
 def line_of(members: dict[str, typing.Any]) -> str:
-    """A line of a story."""
     return json.dumps(members, separators=(",", ":")) + "\n"
 
 
@@ -101,7 +100,6 @@ class Run:
                 self.view.take(event)
 
     def event(self, priority: int, frame: int, at: int, answer: str) -> dict[str, typing.Any]:
-        """The event that an answer tells of."""
         number = self.events
         self.events += 1
         if answer == "lapsed":

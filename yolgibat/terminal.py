@@ -9,7 +9,7 @@ import pathlib
 import select
 import subprocess
 
-from yolgibat import command, joining, places, programs, serials, standard, texts
+from yolgibat import apart, command, joining, places, programs, serials, standard, texts
 
 NOBODY = 10
 
@@ -78,13 +78,11 @@ class Walk:
     def blink(self, address: int) -> int:
         """Lets it blink until that ends or something is typed. Its status where it has ended."""
         if not self.blinking:
-            words = joining.alone([self.program, "identify", str(address)], self.driver, self.seconds, True)
-            how = {"stdin": subprocess.DEVNULL, "stderr": subprocess.PIPE, "text": True, "start_new_session": True}
-            self.blinking = subprocess.Popen(words, **how)
+            self.blinking = apart.Process([[self.program, "identify", str(address)], self.driver, self.seconds, True])
         while self.blinking.poll() is None:
             if select.select([0], [], [], 0.1)[0]:
                 return 0
-        standard.say(self.blinking.stderr.read(), "")
+        standard.say(self.blinking.stderr.read().decode(errors="replace"), "")
         status, self.blinking = self.blinking.returncode, None
         return status
 

@@ -47,7 +47,6 @@ def is_line(name: str) -> bool:
 
 @functools.cache
 def of(language: str) -> dict[str, str]:
-    """The texts of pages."""
     at = languages().index(language)
     return {name: them[at] for name, them in known().items() if name != "languages" and not is_line(name)}
 

@@ -172,7 +172,6 @@ class Walk:
             self.begin_turn()
 
     def state(self) -> dict[str, typing.Any]:
-        """What a page shows of it."""
         addresses = {it["random"]: it["address"] for it in self.bus.table}
         return {
             "turn": self.turn, "address": self.address(), "random": self.left[0], "shown": self.shown, "rests": self.rests,

@@ -11,10 +11,10 @@
 #define UART ((volatile uint32_t *)0x40004000)
 enum { DATA, STATE, CONTROL, PENDING, DIVISOR };
 enum { OUT_FULL = 1, IN_FULL = 2, IN_LOST = 8, ALL_ON = 15, OUT_DONE = 1, IN_DONE = 2 };
-/* The watchdog (CMSDK APB watchdog), which counts 25 MHz. It barks after five seconds, and begins anew after five more. */
+/* The watchdog (CMSDK APB watchdog), which counts 25 MHz. It barks after a second, and the board begins anew after one more. */
 #define DOG ((volatile uint32_t *)0x40008000)
 enum { DOG_LOAD = 0, DOG_CONTROL = 2, DOG_CLEAR = 3, DOG_LOCK = 0x300 };
-#define DOG_COUNTS UINT32_C(125000000)
+#define DOG_COUNTS UINT32_C(25000000)
 /* Of the processor: its timer, which comes each 10 ms, and which interrupts are on. */
 #define TIMER ((volatile uint32_t *)0xE000E010)
 #define TICK_COUNTS (25000000 / 100 - 1)
@@ -187,10 +187,7 @@ void bark(void)
 void interrupt(void)
 {
     UART[PENDING] = OUT_DONE | IN_DONE;
-    if (UART[STATE] & IN_LOST) {
-        UART[STATE] = IN_LOST;
-        interface_received(INTERFACE_DAMAGED);
-    }
+    UART[STATE] = IN_LOST;
     while (UART[STATE] & IN_FULL) {
         interface_received((uint8_t)UART[DATA]);
         bytes++;

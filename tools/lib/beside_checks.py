@@ -7,11 +7,10 @@ import pathlib
 import shlex
 import signal
 import subprocess
-import time
 
 from lib.drive_stubs import Checks
 from lib.page_stubs import DRIVER, GEAR, PROGRAM, WAIT, Page, Room
-from yolgibat import forked, marks
+from yolgibat import apart, marks
 
 
 def check_beside(checks: Checks, folder: pathlib.Path) -> None:
@@ -61,9 +60,8 @@ def check_missed(checks: Checks, folder: pathlib.Path) -> None:
 
 def check_ended(checks: Checks, _folder: pathlib.Path) -> None:
     """What ends by itself and is stopped at that moment: the signal reaches nothing, which is no fault of what sends it."""
-    process = forked.Process([["true"], shlex.split(DRIVER), 10, False], (os.memfd_create("story"),))
-    while os.path.exists(f"/proc/{process.pid}"):
-        time.sleep(0.01)
+    process = apart.Process([["true"], shlex.split(DRIVER), 10, False], (os.memfd_create("story"),))
+    os.waitid(os.P_PID, process.pid, os.WEXITED | os.WNOWAIT)
     try:
         process.send_signal(signal.SIGTERM)
         checks.same(process.wait(), 0, "a command that has ended by itself is as it was")

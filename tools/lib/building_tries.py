@@ -127,7 +127,7 @@ TAKEN, SIZE = "docs/pictures/building.png", (1000, 820)
 CALLS, ENDED, FRAMES = 4, (0, 13), 3000
 # The processes of a building, by what their command lines have.
 DRIVERS = "the drivers"
-KINDS = {"what joins each program and its driver": b"forked.serve", DRIVERS: b"adapters/simulated", "the command": b"yolgibat"}
+KINDS = {"what joins each program and its driver": b"import apart", DRIVERS: b"adapters/simulated", "the command": b"yolgibat"}
 
 
 class Many(Room):
@@ -246,7 +246,7 @@ def try_delays(chosen: argparse.Namespace, program: str) -> int:
     checks = Checks()
     with tempfile.TemporaryDirectory() as folder:
         names = [f"delay.{it}" for it in DELAYS]
-        driver = f"{ROOT}/adapters/delayed {{}} {ROOT}/adapters/simulated {{}}/gear.json --timed --gear {chosen.gear} --slow {chosen.slow}"
+        driver = f"{ROOT}/adapters/tests/delayed {{}} {ROOT}/adapters/simulated {{}}/gear.json --timed --gear {chosen.gear} --slow {chosen.slow}"
         drivers = {it.replace(".", "_"): driver.format(it.partition(".")[2], it) for it in names}
         room = Room(pathlib.Path(folder, "far"), names, program, **drivers)
         os.chdir(room.folder)
@@ -298,7 +298,7 @@ def try_faults(chosen: argparse.Namespace, program: str) -> int:
     checks, names = Checks(), ["full", "hung", "dropped", "well.1", "well.2"]
     with tempfile.TemporaryDirectory() as folder:
         simulated = f"{ROOT}/adapters/simulated {{0}}/gear.json --gear 20 --slow {chosen.slow or 0.005}"
-        hung, dropped = f"sh -c 'sed -u 100q | {simulated}; sleep 60'", f"{ROOT}/adapters/delayed 0 --drop 101 {simulated}"
+        hung, dropped = f"sh -c 'sed -u 100q | {simulated}; sleep 60'", f"{ROOT}/adapters/tests/delayed 0 --drop 101 {simulated}"
         drivers = {it: {"hung": hung, "dropped": dropped}.get(it, simulated).format(it) for it in names}
         room = Room(pathlib.Path(folder, "ill"), names, program, 20, **{it.replace(".", "_"): text for it, text in drivers.items()})
         with commission_faults.small_disk(room.folder / "disk", "80k") as is_there:

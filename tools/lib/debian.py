@@ -9,15 +9,13 @@ import shutil
 import tempfile
 import time
 
-from lib import ROOT, completions, manual_pages, packing, program_files, targets
+from lib import ROOT, manual_pages, packing, program_files, targets
 from lib.packing import Entry, Files
 
 ARCHITECTURE = "amd64"
 HOME, DOC = "usr/lib/yolgibat", "usr/share/doc/yolgibat"
-# Where the completions of each shell are looked for.
-SHELLS = {
-    "bash": "usr/share/bash-completion/completions", "zsh": "usr/share/zsh/vendor-completions", "fish": "usr/share/fish/vendor_completions.d",
-}
+# Where the completions of each shell are looked for: by the name of a command, but for zsh.
+SHELLS = {"bash": "usr/share/bash-completion/completions/{}", "fish": "usr/share/fish/vendor_completions.d/{}.fish"}
 # Files of tools/lib/packaged that stand elsewhere.
 PLACES = {
     "nightly": f"{HOME}/nightly",
@@ -25,10 +23,9 @@ PLACES = {
     "yolgibat-check@.timer": "usr/lib/systemd/system/yolgibat-check@.timer",
     "yolgibat.desktop": "usr/share/applications/yolgibat.desktop",
     "yolgibat.svg": "usr/share/icons/hicolor/scalable/apps/yolgibat.svg",
+    "completion.zsh": "usr/share/zsh/vendor-completions/_yolgibat",
     "overrides": "usr/share/lintian/overrides/yolgibat",
 }
-# The same, for the page on which scripts are played, if that was made.
-PAGE = {"doc-base": "usr/share/doc-base/yolgibat.yolgibat"}
 SCRIPTS = ("postinst", "prerm", "postrm")
 # A folder for the settings of a site, which is empty.
 SETTINGS = "etc/yolgibat"
@@ -82,13 +79,11 @@ def files(made: dict[str, bytes], said: str) -> Files:
     found |= {f"{DOC}/copyright": Entry(copyright_text().encode()), f"{DOC}/changelog.gz": zipped(changelog())}
     for name, text in manual_pages.pages().items():
         found[f"usr/share/man/man{name[-1]}/{name}.gz"] = zipped(text)
-    for name, text in completions.scripts().items():
-        shell, _, file = name.partition("/")
-        found[f"{SHELLS[shell]}/{file}"] = Entry(text.encode())
-        # A shell looks for a file that is named as the command, also by its old name. zsh finds both in one file.
-        found |= {f"{SHELLS[shell]}/{file.replace('-', '_')}": Entry(leads_to=file)} if shell != "zsh" else {}
-    places = PLACES | (PAGE if program_files.TRY.name in read else {})
-    return found | {place: Entry((program_files.PACKAGED / name).read_bytes(), name == "nightly") for name, place in places.items()}
+    for shell, place in SHELLS.items():
+        found[place.format("yolgibat")] = Entry((program_files.PACKAGED / f"completion.{shell}").read_bytes())
+        leads = pathlib.PurePath(place.format("yolgibat")).name
+        found |= {place.format(name): Entry(leads_to=leads) for it in program_files.LAUNCHERS for name in (it, it.replace("_", "-"))}
+    return found | {place: Entry((program_files.PACKAGED / name).read_bytes(), name == "nightly") for name, place in PLACES.items()}
 
 
 def libc(made: dict[str, bytes]) -> str:

@@ -14,8 +14,8 @@ WIDTH = 120
 SUMMARY, LIST = " (see a summary with '-h')", re.compile(r"(?<=:\n)(?: +\S.*\n(?: {10}.*\n|\n(?= ))+)+")
 ITEM = re.compile(r"^( {2,6}\S.*)\n((?: {10}.*\n|\n(?= {10}))+)", re.M)
 # Of each program the file of each text, and the words that ask for it. What only the launchers say, no program does: the files
-# of `launcher`, `page`, `building`, `audit` and `trace`, and dali_view.txt. In place of dali_commission.txt ./dali_commission says
-# dali_commission-launcher.txt, which the lint compares with the helps of its commands.
+# of `launcher`, `page`, `building`, `audit` and `trace`, and dali_view.txt. The lint compares dali_commission-launcher.txt with the helps of its
+# commands.
 WORDS = {
     "dali_sim": {
         "dali_sim.txt": ["--help"],
@@ -24,7 +24,6 @@ WORDS = {
         "dali_sim-version.txt": ["--version"],
     },
     "dali_commission": {
-        "dali_commission.txt": ["--help"],
         "dali_commission-run.txt": ["run", "--help"],
         "dali_commission-check.txt": ["check", "--help"],
         "dali_commission-identify.txt": ["identify", "--help"],

@@ -105,7 +105,6 @@ def spoken(text: str) -> str:
 
 
 def page(program: str) -> str:
-    """The page of a launcher."""
     name = program.replace("_", "-")
     made = head(name, 1, ABOUT[program]) + f".SH SYNOPSIS\n.B {escaped(name)}\n.RI [ words ]\n.SH DESCRIPTION\n" + shown(*command.TEXTS[program])
     for it in commands(program):
@@ -116,7 +115,6 @@ def page(program: str) -> str:
 
 
 def paragraphs(markdown: str) -> str:
-    """Paragraphs and lists of a document."""
     made = []
     for line in markdown.splitlines():
         if line.startswith("- "):
@@ -137,5 +135,4 @@ def overview() -> str:
 
 
 def pages() -> dict[str, str]:
-    """All pages by their names."""
     return {f"{it.replace('_', '-')}.1": page(it) for it in ABOUT} | {"yolgibat.7": overview()}

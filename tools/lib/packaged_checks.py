@@ -66,19 +66,21 @@ def typed(words: list[str], lines: list[bytes], wanted: bytes, env: dict[str, st
         os.waitpid(process, 0)
 
 
-def completes(shell: str, folder: pathlib.Path, launcher: str, call: str, wanted: str) -> bool:
-    """Whether a shell that has loaded what it completes of a launcher ends the last word of a call as is wanted."""
-    name, words = launcher.replace("_", "-"), call.split()
-    env = {"PATH": PATH, "HOME": str(folder), "TERM": "dumb", "LANG": "C.UTF-8"}
+def completes(shell: str, package: pathlib.Path, call: str, wanted: str) -> bool:
+    """Whether a shell that has loaded what it completes, of a package whose launchers it finds, ends the last word of a call as is wanted."""
+    words, file = call.split(), package / f"completions/completion.{shell}"
+    env = {"PATH": f"{package}:{PATH}", "HOME": str(package), "TERM": "dumb", "LANG": "C.UTF-8"}
     if shell == "zsh":
-        begin = f"PS1=; fpath=({folder}/zsh $fpath); autoload -Uz compinit; compinit -u -D; bindkey -e\n"
+        (package / "zsh").mkdir(exist_ok=True)
+        shutil.copy(file, package / "zsh/_yolgibat")
+        begin = f"PS1=; fpath=({package}/zsh $fpath); autoload -Uz compinit; compinit -u -D; bindkey -e\n"
         whole = " ".join([*words[:-1], wanted])
         return typed(["zsh", "-f", "-i"], [begin.encode(), f"{call}\t".encode(), b"\x01echo LINE:\n"], f"LINE:{whole}".encode(), env)
     if shell == "bash":
-        text = f". {folder}/bash/{name}; COMP_WORDS=({call}); COMP_CWORD={len(words) - 1}; _{launcher}; printf '%s\\n' \"${{COMPREPLY[@]}}\""
+        text = f". {file}; COMP_WORDS=({call}); COMP_CWORD={len(words) - 1}; _yolgibat; printf '%s\\n' \"${{COMPREPLY[@]}}\""
         given = ["bash", "--norc", "--noprofile", "-c", text]
     else:
-        given = ["fish", "--no-config", "-c", f"source {folder}/fish/{name}.fish; complete -C '{call}'"]
+        given = ["fish", "--no-config", "-c", f"source {file}; complete -C '{call}'"]
     done = subprocess.run(given, env=env, capture_output=True, text=True, timeout=WAIT)
     return wanted in [it.partition("\t")[0] for it in done.stdout.splitlines()]
 

@@ -42,7 +42,6 @@ def moment() -> int:
 
 
 def is_changed() -> bool:
-    """Whether files differ from the commit."""
     return bool(git("status", "--porcelain"))
 
 
@@ -82,12 +81,6 @@ def manual(*names: str) -> list[pathlib.Path]:
     for page in found:
         found += [it for it in dict.fromkeys(links(page)) if it not in found]
     return found
-
-
-def lost_links(place: pathlib.Path) -> list[str]:
-    """The links of pages that lead out of what was unpacked, or to nothing."""
-    found = [(page, it) for page in sorted(place.rglob("*.md")) for it in links(page)]
-    return [f"{page.relative_to(place)}: {it}" for page, it in found if not (it.is_relative_to(place.resolve()) and it.exists())]
 
 
 def read(*them: pathlib.Path) -> Files:

@@ -6,7 +6,7 @@ What runs are the launchers, the folders of RUNS and the programs. tools/lib/pac
 import pathlib
 import re
 
-from lib import ROOT, completions, manual_pages, packing, proving, targets
+from lib import ROOT, manual_pages, packing, proving, targets
 from lib.packing import Entry, Files
 
 LAUNCHERS = ("dali_commission", "dali_sim", "dali_view")
@@ -16,7 +16,7 @@ RUNS = ("yolgibat", "adapters", "include")
 # A launcher as it is called in a clone, in a text of a launcher or a tool.
 IN_CLONE = re.compile(rb"\./dali_(commission|sim|view)\b")
 # The pages for installers. What they lead to beside these and their pictures is left out, and so are the links to it.
-MANUALS = ("INSTALLER", "BUILDING", "ADAPTERS", "FORMAT", "STORES", "GLOSSARY", "PROMISE", "RULES")
+MANUALS = ("INSTALLER", "BUILDING", "ADAPTERS", "INTERFACE", "FORMAT", "STORES", "GLOSSARY", "PROMISE", "RULES")
 # The page on which scripts are played in a browser. It is taken along if it was made.
 TRY = ROOT / "out/web/try.html"
 LINK = re.compile(r"(?<!!)\[((?:[^\[\]]|\[[^\]]*\])*)\]\(((?!\w+:)[^)\s#]+)(?:#[^)\s]*)?\)")
@@ -35,7 +35,6 @@ The first gives 20 simulated gear their addresses. docs/INSTALLER.md is the manu
 
 
 def programs() -> list[proving.Crate]:
-    """The programs of crates/."""
     return [it for it in proving.workspace().values() if it.is_program and it.folder.parent == proving.CRATES]
 
 
@@ -112,7 +111,7 @@ def folder(made: dict[str, bytes], said: str, machine: str, licences: Files) -> 
     found = {**running(made), **examples(), **manuals(), **told(said)}
     found |= {it.replace("_", "-"): Entry(leads_to=it) for it in LAUNCHERS}
     found |= {f"man/{name}": Entry(text.encode()) for name, text in manual_pages.pages().items()}
-    found |= {f"completions/{name}": Entry(text.encode()) for name, text in completions.scripts().items()}
+    found |= {f"completions/{it.name}": Entry(it.read_bytes()) for it in PACKAGED.glob("completion.*")}
     tried = f"{TRY.name} plays scripts in a browser.\n" if TRY.name in found else ""
     return found | licences | {"README": Entry(README.format(version=packing.versions()[0], machine=machine, tried=tried).encode())}
 

@@ -50,7 +50,6 @@ def texts() -> dict[str, object]:
 
 
 def page(wasm: bytes, is_proved: bool) -> bytes:
-    """The page around a player."""
     version, commit = packing.versions()[0], packing.commit() + (", with changes" if packing.is_changed() else "")
     parts = {
         "/*STYLE*/": (ROOT / "yolgibat/page.css").read_text(), "/*SITES*/": (WEB / "sites.js").read_text(), "/*PAGE*/": (WEB / "page.js").read_text(),

@@ -60,6 +60,7 @@ CHECKS = (
     Check(30, "tools/check/spi --seed SEED", ("cc",), (*LIBRARY, "adapters")),
     Check(20, "tools/check/commission-sites --sites 100 --seed SEED", ("mkfs.ext4",), (*PROGRAMS, "adapters")),
     Check(20, "tools/check/c-library --seed SEED", ("cc", "valgrind"), LIBRARY),
+    Check(15, "tools/check/interface --seed SEED", ("qemu-system-arm",), (*LIBRARY, "adapters")),
     Check(15, "tools/check/hammer --runs 20000 --seed SEED"),
     Check(15, "tools/check/packages --built", ("debootstrap", "lintian"), ("yolgibat", "tools", "docs")),
     Check(15, "tools/check/captures --seed SEED", covers=("crates/dali_capture", "crates/dali_audit", "crates/dali_audit_program")),

@@ -1,5 +1,4 @@
-/* What compilers for Arm call by themselves: of the run-time ABI for the Arm architecture, where it is not the name of the same call in
- * memory.c. */
+/* What compilers for Arm call by themselves: of the run-time ABI for the Arm architecture, what is not a further name of a call in memory.c. */
 #include <stdint.h>
 #include <string.h>
 
@@ -12,6 +11,11 @@ void __aeabi_memclr(void *to, size_t count)
 {
     memset(to, 0, count);
 }
+
+void __aeabi_memset4(void *to, size_t count, int byte) __attribute__((alias("__aeabi_memset")));
+void __aeabi_memset8(void *to, size_t count, int byte) __attribute__((alias("__aeabi_memset")));
+void __aeabi_memclr4(void *to, size_t count) __attribute__((alias("__aeabi_memclr")));
+void __aeabi_memclr8(void *to, size_t count) __attribute__((alias("__aeabi_memclr")));
 
 /* By additions: what is written as four products of halves is made one call of this again. */
 uint64_t __aeabi_lmul(uint64_t one, uint64_t other)

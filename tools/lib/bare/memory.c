@@ -91,3 +91,13 @@ int memcmp(const void *one, const void *other, size_t count)
             return *byte - *beside;
     return 0;
 }
+
+#ifdef __arm__
+/* Of the run-time ABI for the Arm architecture. */
+void *__aeabi_memcpy(void *to, const void *from, size_t count) __attribute__((alias("memcpy")));
+void *__aeabi_memcpy4(void *to, const void *from, size_t count) __attribute__((alias("memcpy")));
+void *__aeabi_memcpy8(void *to, const void *from, size_t count) __attribute__((alias("memcpy")));
+void *__aeabi_memmove(void *to, const void *from, size_t count) __attribute__((alias("memmove")));
+void *__aeabi_memmove4(void *to, const void *from, size_t count) __attribute__((alias("memmove")));
+void *__aeabi_memmove8(void *to, const void *from, size_t count) __attribute__((alias("memmove")));
+#endif

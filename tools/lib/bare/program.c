@@ -296,6 +296,8 @@ static struct call calls[] = {
 #define TAKE_TIME 17
 #define TAKE_EDGE 19
 #define AT_PORTS 21
+/* The phase of a port whose frame was sent whole. */
+#define LISTENS 4
 /* How often each trouble comes, per million frames, and when a machine that does not end is left. */
 #ifndef TROUBLED
 #define TROUBLED 0
@@ -677,14 +679,16 @@ static void measure_ports(void)
         course.other_order = (struct dali_order){DALI_PUT, DALI_FIRST_PRIORITY, course.number >> 8 & 0xFF, course.number & 0xFF, 1, DALI_WHOLE,
                                                  {0, {0, {0, 0, 0}}}, 0};
         measure_from(AT_PORTS, AT_PORTS + 2);
-        for (uint32_t was_low = 0, halves = 0; course.event.input == 0; was_low = course.event.is_low) {
+        for (uint32_t was_low = 0, listens = 0; course.event.input == 0; was_low = course.event.is_low) {
             course.now = course.event.at;
             measure_from(AT_PORTS + 2, AT_PORTS + 3);
             if (course.event.is_low != was_low)
                 port_edge(course.event.is_low, course.now + 15);
-            if (++halves == 41 && frame % 2 == 0)
+            if (course.port.phase != LISTENS || listens++ > 0)
+                continue;
+            if (frame % 2 == 0)
                 port_hears(9, 0x100 + frame, course.now + 5000);
-            else if (halves == 41 && frame % 8 == 1)
+            else if (frame % 8 == 1)
                 port_noise(course.now + 5000);
         }
         port_hears(17, 0x10000 + course.number, course.now + 9000);

@@ -16,7 +16,7 @@
 
 typedef uint64_t moment;
 
-enum kind { SEEN, INTERRUPT, DRIVEN, TOGGLE, REST, ORDER, BUTTON, NOISE, POWER, DRAW };
+enum kind { SEEN, INTERRUPT, DRIVEN, TURNED, TOGGLE, REST, ORDER, BUTTON, NOISE, POWER, DRAW };
 
 struct event {
     moment at;
@@ -55,6 +55,9 @@ struct host {
     struct view view;
     struct pins pins;
     uint32_t late, length, spikes;
+    /* Whether a unit changes the pin at the time that the port told, and how often it was told. */
+    uint8_t has_unit;
+    uint32_t plans;
     moment free_at;
     uint32_t captured;
     uint8_t is_captured, has_overrun, sees_low, drives_low, pin_low, is_up;
@@ -387,6 +390,9 @@ void pins_drive(struct pins *pins, uint8_t is_low, uint32_t at)
     uint32_t who = (uint32_t)(it - hosts);
 
     it->free_at = now + it->length;
+    /* The unit has changed it already: a level whose time is past is not driven any more. */
+    if (it->has_unit && real(&it->view, at) <= it->free_at)
+        is_low = pins->event.next;
     if (is_low && it->is_busy && !it->is_begun) {
         it->is_begun = 1;
         it->begun = now + it->length;
@@ -400,6 +406,10 @@ void pins_drive(struct pins *pins, uint8_t is_low, uint32_t at)
     }
     {
         moment due = real(&it->view, at);
+
+        it->plans++;
+        if (it->has_unit && pins->event.next != is_low && due > it->free_at && due < now + 10000000)
+            plan(due, TURNED, who, pins->event.next, it->plans);
 
         /* What is due in minutes is the clock alone. */
         if (due < now + 10000000)
@@ -551,6 +561,15 @@ static void dispatch(struct event event)
             pull(event.value);
         }
         break;
+    case TURNED:
+        if (it->is_up && event.stamp == it->plans) {
+            it->drives_low = (uint8_t)event.value;
+            if (it->pin_low != event.value) {
+                it->pin_low = (uint8_t)event.value;
+                pull(event.value);
+            }
+        }
+        break;
     case TOGGLE:
         pull(event.value);
         break;
@@ -648,6 +667,7 @@ static void host_up(struct host *it, moment when)
     it->view = view_drawn();
     it->late = below(6);
     it->length = 1 + below(6);
+    it->has_unit = below(2) == 0;
     it->spikes = is_spiked ? 20 + below(2000) : 0;
     it->is_up = 1;
     it->sees_low = lows > 0;

@@ -106,29 +106,21 @@ struct tried rattle_realloc(void *at, uint64_t before, uint64_t count, uint64_t 
 }
 
 /* Shifts of a number of 128 bits, which LLVM leaves to a library. */
-union wide {
-    unsigned __int128 whole;
-    uint64_t half[2];
-};
+static unsigned __int128 joined(uint64_t high, uint64_t low)
+{
+    return (unsigned __int128)high << 64 | low;
+}
 
 unsigned __int128 __ashlti3(unsigned __int128 number, int by)
 {
-    union wide from = {number}, to = {0};
+    uint64_t high = (uint64_t)(number >> 64), low = (uint64_t)number;
 
-    if (by >= 64)
-        to.half[1] = from.half[0] << (by - 64);
-    else
-        to.half[0] = from.half[0] << by, to.half[1] = from.half[1] << by | (by ? from.half[0] >> (64 - by) : 0);
-    return to.whole;
+    return by >= 64 ? joined(low << (by - 64), 0) : by ? joined(high << by | low >> (64 - by), low << by) : number;
 }
 
 unsigned __int128 __lshrti3(unsigned __int128 number, int by)
 {
-    union wide from = {number}, to = {0};
+    uint64_t high = (uint64_t)(number >> 64), low = (uint64_t)number;
 
-    if (by >= 64)
-        to.half[0] = from.half[1] >> (by - 64);
-    else
-        to.half[1] = from.half[1] >> by, to.half[0] = from.half[0] >> by | (by ? from.half[1] << (64 - by) : 0);
-    return to.whole;
+    return by >= 64 ? high >> (by - 64) : by ? joined(high >> by, low >> by | high << (64 - by)) : number;
 }

@@ -209,26 +209,21 @@ addEventListener('hashchange', async () => { const text = await linked(); if (te
 // ---- A site by sliders.
 const SITE = { gear: 8, controllers: 2, used: 0, seed: 1, survey: false, chances: {} };
 function showSliders() {
-  const slider = (name, text, most, step, read, set, shownAs) => {
-    const label = element('label'), head = element('span', text), value = element('b', shownAs(read()));
-    const input = element('input', undefined, { type: 'range', min: 0, max: most, step, id: `site-${name}` });
-    input.value = read();
+  const slider = (name, text, min, max, step, of, key, shownAs) => {
+    const label = element('label'), head = element('span', text), value = element('b', shownAs(of[key]));
+    const input = element('input', undefined, { type: 'range', min, max, step, id: `site-${name}`, value: of[key] ?? 0 });
     head.append(value);
     label.append(head, input);
-    input.oninput = () => { set(+input.value); value.textContent = shownAs(read()); makeSite(); };
+    input.oninput = () => { of[key] = +input.value; value.textContent = shownAs(of[key]); makeSite(); };
     return label;
   };
-  const number = (name, text, least, most) => {
-    const label = slider(name, text, most, 1, () => SITE[name], it => { SITE[name] = it; }, String);
-    label.querySelector('input').min = least;
-    return label;
-  };
+  const number = (name, text, least, most) => slider(name, text, least, most, 1, SITE, name, String);
   const check = element('label', undefined, { className: 'check' }), box = element('input', undefined, { type: 'checkbox', id: 'site-survey' });
   box.onchange = () => { SITE.survey = box.checked; makeSite(); };
   box.style.cssText = 'width: 22px; min-height: 22px; vertical-align: middle; margin-right: 8px';
   check.append(box, 'each controller begins with a survey');
-  const troubles = Object.entries(TEXTS.troubles).map(([name, text]) => slider(name, `${name}: ${text}`, 0.1, 0.002, () => SITE.chances[name] ?? 0,
-    it => { SITE.chances[name] = it; }, it => `${(100 * it).toFixed(1)} %`));
+  const troubles = Object.entries(TEXTS.troubles).map(([name, text]) => slider(name, `${name}: ${text}`, 0, 0.1, 0.002, SITE.chances, name,
+    it => `${(100 * (it ?? 0)).toFixed(1)} %`));
   at('sliders').replaceChildren(number('gear', 'gear', 1, 128), number('controllers', 'controllers', 1, 4),
     number('used', 'gear with a short address of their own', 0, 64), number('seed', 'another site of this kind', 1, 100), check, ...troubles);
 }
