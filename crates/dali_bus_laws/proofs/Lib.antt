@@ -6,3 +6,4 @@ mod Two
 mod Broken
 mod Without
 mod Pairs
+mod Transactions

@@ -3,3 +3,4 @@ pub mod Bus
 pub mod Pins
 pub mod Breaks
 pub mod Pairs
+pub mod Transactions

@@ -12,7 +12,7 @@ ghost use Rattle.dali_port.specs.State.{Port, Sent as Sending};
 ghost use Rattle.dali_port.specs.State as phase;
 ghost use Rattle.dali_port.specs.Frames.{begun_at};
 ghost use Rattle.dali_port.specs.Runs.{Call, after_all};
-ghost use Rattle.dali_port.specs.Orders.{is_second};
+ghost use Rattle.dali_port.specs.Orders.{is_later, is_second};
 ghost use Rattle.dali_port.specs.Times.{frame_time, pair_time};
 ghost use Rattle.dali_port.specs.Calls.{timer_after};
 ghost use Rattle.dali_port.specs.Laws.{is_sending};
@@ -23,6 +23,7 @@ ghost use Rattle.dali_bus_laws.specs.Pins.{edges_in, InOrder, AreEdgesOf, HasBeg
 ghost use Rattle.dali_bus_laws.specs.Pins.{seen_at, over_at};
 ghost use Rattle.dali_bus_laws.specs.Breaks.{BreaksOff};
 ghost use Rattle.dali_bus_laws.specs.Pairs.{first_after_all};
+ghost use Rattle.dali_bus_laws.specs.Transactions.{alone_after_all};
 
 /// A frame begins at rest: whatever the port did before, if its timer begins one, the bus is high, and no edge came for
 /// the settling time of its priority.
@@ -69,4 +70,12 @@ pub fn a_pair_is_in_time()
     ensures { (p : Port) (calls : List Call) (now : ℕ) (s : Sending) → is_sending (after_all p calls).phase ≡ false
         → (timer_after (after_all p calls) now).phase ≡ phase.Sending s → is_second s.order.half ≡ true
         → (first : ℕ) × (first_after_all p p.first calls ≡ Some first) × (now + frame_time ≤ first + pair_time) }
+{}
+
+/// From power-up on a port begins a later frame of a transaction only if it was alone since its last frame: each edge
+/// came while that frame was on the bus, with its break or its window, and none was lost.
+pub fn a_broken_transaction_is_known()
+    ensures { (p : Port) (calls : List Call) (now : ℕ) (s : Sending) → p.is_over ≡ true → p.phase ≡ phase.Free
+        → is_sending (after_all p calls).phase ≡ false → (timer_after (after_all p calls) now).phase ≡ phase.Sending s
+        → is_later s.order ≡ true → alone_after_all p false calls ≡ true }
 {}
