@@ -173,7 +173,9 @@ OTHERS, PORT = {"action": "append", "type": block_of, "default": []}, {"type": p
 
 
 def of_page(words: list[str]) -> argparse.Namespace:
-    options = Options("dali_commission page", records=MANY | WANTED, others=OTHERS, port=PORT, open=FLAG, expect=MANY, program={}, listen={"type": host_of})
+    options = Options(
+        "dali_commission page", records=MANY | WANTED, others=OTHERS, port=PORT, open=FLAG, listen={"type": host_of}, expect=MANY, program={}
+    )
     options.add_argument("block", nargs="?", type=block_of, default="0-63")
     return over_driver(options, words)
 

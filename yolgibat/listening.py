@@ -116,7 +116,6 @@ class Server(serving.Server):
     """What devices ask. It has the pages and the bus of the computer's own server."""
 
     def __init__(self, own: serving.Server, host: str) -> None:
-        self.own = own
         self.join_pages, self.join_policy = serving.prepared(PAGE)
         super().__init__(own.bus, own.server_address[1], "", Handler, host)
         own.devices = self.devices = Devices(f"http://{self.hosts[0]}/")

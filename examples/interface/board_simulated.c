@@ -187,10 +187,7 @@ void bark(void)
 void interrupt(void)
 {
     UART[PENDING] = OUT_DONE | IN_DONE;
-    if (UART[STATE] & IN_LOST) {
-        UART[STATE] = IN_LOST;
-        interface_received(INTERFACE_DAMAGED);
-    }
+    UART[STATE] = IN_LOST;
     while (UART[STATE] & IN_FULL) {
         interface_received((uint8_t)UART[DATA]);
         bytes++;

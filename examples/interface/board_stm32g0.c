@@ -40,7 +40,7 @@ enum { HIGH_THEN = 1, LOW_THEN = 2, LOW_NOW = 4, HIGH_NOW = 5 };
 #define CAPTURED BIT(1)
 #define MOMENT BIT(2)
 #define OVERRUN BIT(9)
-/* In USART_ISR: parity, framing, noise and overrun; a byte came; a byte may go. */
+/* In USART_ISR and USART_ICR: parity, framing, noise and overrun; in the first: a byte came; a byte may go. */
 #define DAMAGED (BIT(0) | BIT(1) | BIT(2) | BIT(3))
 #define BYTE_CAME BIT(5)
 #define BYTE_MAY_GO BIT(7)
@@ -210,10 +210,7 @@ static void of_serial_port(void)
     uint32_t found = USART2[USART_ISR];
     int byte;
 
-    if (found & DAMAGED) {
-        USART2[USART_ICR] = DAMAGED;
-        interface_received(INTERFACE_DAMAGED);
-    }
+    USART2[USART_ICR] = DAMAGED;
     if (found & BYTE_CAME)
         interface_received((uint8_t)USART2[USART_RDR]);
     if (!(found & BYTE_MAY_GO) || !(USART2[USART_CR1] & BYTE_MAY_GO))

@@ -37,8 +37,7 @@ void board_rest(void);
 /* WHAT A BOARD CALLS in its interrupts: what the port tells of a frame, an input of dali_machine_step with its byte; */
 void interface_told(uint8_t input, uint8_t byte);
 
-/* a byte that was received, or INTERFACE_DAMAGED if one was lost or is not sure; */
-#define INTERFACE_DAMAGED 0
+/* a byte that was received; one that is lost or wrong shows by the sum of its line; */
 void interface_received(uint8_t byte);
 
 /* the next byte to be sent, or -1. */

@@ -22,13 +22,11 @@ static inline int ring_is_empty(const struct ring *ring)
     return ring->put == ring->taken;
 }
 
-/* A byte that finds no room spoils the one before it, so that no line is read without it. */
+/* A byte that finds no room is lost: the sum of its line shows it. */
 static inline void ring_put(struct ring *ring, uint8_t byte)
 {
     if (ring_room(ring) > 0)
         ring->bytes[ring->put++ % RING_BYTES] = byte;
-    else
-        ring->bytes[(ring->put - 1) % RING_BYTES] = 0;
 }
 
 /* The next byte, or -1. */

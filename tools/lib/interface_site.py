@@ -16,9 +16,12 @@ import typing
 from lib import commission_site, targets
 
 INTERFACE = targets.ROOT / "examples/interface"
-# What examples/interface is linked of for the simulated board.
-SOURCES = [*(INTERFACE / it for it in ("interface.c", "text.c", "board_simulated.c")), *(targets.EXAMPLE / it for it in targets.AT_PINS)]
 TARGET = targets.TARGETS["thumbv6m"]
+# What it is linked of for each board, beside its own files; what it begins with there, and how it is linked.
+BOARDS = {
+    "simulated": (targets.AT_PINS, TARGET.start, TARGET.link),
+    "stm32g0": (("pins.c",), [targets.BARE / it for it in ("aeabi.c", "memory.c")], ["-T", INTERFACE / "stm32g0.ld", "-e", "reset"]),
+}
 # The memory that outlives a board, as board_simulated.c has it: its head, one gear, and where gear and edges begin.
 MEMORY, MADE = 16 << 20, 0xDA110001
 HEAD, GEAR, GEAR_AT, EDGES_AT = struct.Struct("=4IQI6II"), struct.Struct("=IIBBBB"), 56, 824
@@ -28,9 +31,11 @@ MASK, MASK24, MOST_GEAR = 0xFF, 0xFFFFFF, 64
 FAULTS = ("flip", "lost", "cut", "noise", "twice", "late", "gone")
 
 
-def built(library: pathlib.Path, folder: pathlib.Path) -> pathlib.Path:
-    """The firmware for the simulated board."""
-    return targets.program(TARGET, folder, SOURCES, library, ["-I", str(INTERFACE)])
+def built(library: pathlib.Path, folder: pathlib.Path, board: str = "simulated") -> pathlib.Path:
+    """The firmware for a board."""
+    others, start, link = BOARDS[board]
+    sources = [INTERFACE / it for it in ("interface.c", "text.c", f"board_{board}.c")] + [targets.EXAMPLE / it for it in others]
+    return targets.program(TARGET._replace(start=start, link=link), folder, sources, library, ["-I", str(INTERFACE)])
 
 
 class Line:
@@ -207,6 +212,17 @@ class Site(commission_site.Place):
             raw = file.read(EDGES_AT)
         rows = [GEAR.unpack_from(raw, GEAR_AT + at * GEAR.size) for at in range(self.head()[-1])]
         return [(None if it[3] == MASK else it[3] >> 1, it[0]) for it in rows]
+
+    def is_released(self) -> bool:
+        """Whether the bus comes to rest soon; that of a board that is off has no such time."""
+        until = time.monotonic() + 10
+        while self.is_on() and time.monotonic() < until:
+            with open(self.memory, "rb") as file:
+                file.seek(EDGES_AT + 4 * (self.head()[2] - 1))
+                if not file.read(1)[0] & 1:
+                    return True
+            time.sleep(0.05)
+        return not self.is_on()
 
     def trace(self) -> str:
         """The levels of the bus, as a value change dump."""

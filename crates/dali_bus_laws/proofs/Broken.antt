@@ -6,7 +6,7 @@ use Rattle.dali_frame.specs.declared.frames.Forward.{Forward as Bits}
 use Rattle.dali_wire.specs.Levels.{bits_of, levels_of, highs, sent_levels, forward_bits}
 use Rattle.dali_wire.specs.Times.{IsHalf, IsWhole}
 use Rattle.dali_wire.specs.Edges.{by_turns}
-use Rattle.dali_wire.specs.Reception.{ended, frame_read, told_of, receiver_after, read_edge, span_of, with_bit, longer, span_before}
+use Rattle.dali_wire.specs.Reception.{frame_read, read_edge, span_of, longer, span_before}
 use Rattle.dali_wire.specs.declared.receiver.{Frame.Frame, Reading.Reading, Receiver.Receiver, Span.Span, Told.Told}
 use Rattle.dali_wire.specs.declared.receiver.Frame.TheVariants.{Forward, Damaged}
 use Rattle.dali_wire.specs.declared.receiver.Reading.TheVariants.{Idle, First, Between, Middle, Spoilt}
@@ -20,8 +20,8 @@ use Rattle.dali_bus_laws.specs.Table.{table}
 use Rattle.dali_bus_laws.specs.Bus.{Edges, IsSeen, Sees, SeesFrom, first_told, first_read, or_later}
 use Rattle.dali_bus_laws.specs.Pins.{edges_in, spaced, InOrder, AreEdgesOf}
 use Rattle.dali_bus_laws.specs.Breaks.{IsDestroyed, last_time, IsHeld, Alternate, BreaksOff}
-use Rattle.dali_bus_laws.proofs.Seen.{Levels, Rules, Known, Going, StartsFrom, to_come, levels_in, now_driven, over, each_step, starts, start_later}
-use Rattle.dali_bus_laws.proofs.Seen.{edges_first, begun_known, le_along, le_self, with_edge}
+use Rattle.dali_bus_laws.proofs.Seen.{Levels, Rules, Known, StartsFrom, to_come, levels_in, now_driven, over, each_step, starts, start_later}
+use Rattle.dali_bus_laws.proofs.Seen.{edges_first, begun_known, le_along, le_self}
 use Rattle.dali_bus_laws.proofs.Spans.{high_seen, break_seen}
 use Rattle.dali_bus_laws.proofs.Taken.{Takes, AfterStop, ends, a_half, a_whole, next_least, next_most, cons_is, reads}
 use Rattle.dali_bus_laws.proofs.Two.{Sorted, sorted}

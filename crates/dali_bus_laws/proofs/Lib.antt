@@ -4,3 +4,5 @@ mod Taken
 mod Begun
 mod Two
 mod Broken
+mod Without
+mod Pairs

@@ -2,3 +2,4 @@ pub mod Table
 pub mod Bus
 pub mod Pins
 pub mod Breaks
+pub mod Pairs

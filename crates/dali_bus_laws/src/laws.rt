@@ -1,7 +1,7 @@
 //! What several parties on one bus make of a frame: laws over the definitions of ports and receivers. Programs don't
 //! call them.
 
-ghost use Rattle.std.specs.Prelude.{◌≡◌, ℕ, ◌≤◌, ◌⊎◌, false, Some, List, [], ◌++◌, length};
+ghost use Rattle.std.specs.Prelude.{◌≡◌, ℕ, ◌+◌, ◌≤◌, ◌⊎◌, true, false, Some, List, [], ◌++◌, length};
 ghost use Rattle.dali_frame.specs.declared.frames.Forward.{Forward as Sent};
 ghost use Rattle.dali_wire.specs.Levels.{sent_levels, forward_bits};
 ghost use Rattle.dali_wire.specs.declared.receiver.Reading.TheVariants.{Idle};
@@ -11,7 +11,9 @@ ghost use Rattle.dali_port.specs.declared.orders.Order.{Order};
 ghost use Rattle.dali_port.specs.State.{Port, Sent as Sending};
 ghost use Rattle.dali_port.specs.State as phase;
 ghost use Rattle.dali_port.specs.Frames.{begun_at};
-ghost use Rattle.dali_port.specs.Runs.{Call};
+ghost use Rattle.dali_port.specs.Runs.{Call, after_all};
+ghost use Rattle.dali_port.specs.Orders.{is_second};
+ghost use Rattle.dali_port.specs.Times.{frame_time, pair_time};
 ghost use Rattle.dali_port.specs.Calls.{timer_after};
 ghost use Rattle.dali_port.specs.Laws.{is_sending};
 ghost use Rattle.dali_port.specs.Stretches.{IsWhole};
@@ -20,6 +22,7 @@ ghost use Rattle.dali_bus_laws.specs.Bus.{Edges, SeesFrom, first_read};
 ghost use Rattle.dali_bus_laws.specs.Pins.{edges_in, InOrder, AreEdgesOf, HasBegun, SendsWhole};
 ghost use Rattle.dali_bus_laws.specs.Pins.{seen_at, over_at};
 ghost use Rattle.dali_bus_laws.specs.Breaks.{BreaksOff};
+ghost use Rattle.dali_bus_laws.specs.Pairs.{first_after_all};
 
 /// A frame begins at rest: whatever the port did before, if its timer begins one, the bus is high, and no edge came for
 /// the settling time of its priority.
@@ -58,4 +61,12 @@ pub fn what_was_destroyed_was_taken_as_sent_or_not()
         → BreaksOff table bus frame → SeesFrom table bus seen
         → r.reading ≡ Idle → r.is_low ≡ false → 2400 ≤ rest
         → first_read r seen rest ≡ Some (Forward read) → read ≡ frame }
+{}
+
+/// A port begins the second frame of a pair only if the last frame that it began is the first one, and only if the
+/// second ends, by its clock, within 100 ms of the beginning of the first.
+pub fn a_pair_is_in_time()
+    ensures { (p : Port) (calls : List Call) (now : ℕ) (s : Sending) → is_sending (after_all p calls).phase ≡ false
+        → (timer_after (after_all p calls) now).phase ≡ phase.Sending s → is_second s.order.half ≡ true
+        → (first : ℕ) × (first_after_all p p.first calls ≡ Some first) × (now + frame_time ≤ first + pair_time) }
 {}

@@ -13,6 +13,7 @@ use Rattle.dali_port.specs.Ports.{read_at, has_no_power, is_broken_off, listened
 use Rattle.dali_port.specs.Calls.{drive_of, drive_in, is_backwards, may_begin, is_too_late, timed_in, timed, timer_after}
 use Rattle.dali_port.specs.Calls.{same_level, edge_after, lost_after, refused, is_gone, send_after, send_after_by}
 use Rattle.dali_port.specs.Laws.{IsDrivenLow, is_sending, Begins}
+use Rattle.dali_port.specs.Runs.{Call, Sends, Times, Turns, Loses, after, BeginsBy}
 use Rattle.dali_port.proofs.Words.{read_keeps}
 
 -- WHAT IS DRIVEN LOW
@@ -127,3 +128,9 @@ send_quiet_by (Some refusal) p order now quiet = quiet
 
 pub send_quiet : (p : Port) (order : Order) (now : ℕ) → is_sending p.phase ≡ false → is_sending (send_after p order now).phase ≡ false
 send_quiet p order now quiet = send_quiet_by (refused p order now) p order now quiet
+
+pub begins_by : (p : Port) (c : Call) (s : Sent) → is_sending p.phase ≡ false → (after p c).phase ≡ Sending s → BeginsBy p s c
+begins_by p (Sends order now) s quiet sends = not_both (send_after p order now).phase s (send_quiet p order now quiet) sends
+begins_by p (Times now) s quiet sends = timer_begins p now s quiet sends
+begins_by p (Turns low now) s quiet sends = not_both (edge_after p low now).phase s (edge_quiet p low now quiet) sends
+begins_by p (Loses low now) s quiet sends = not_both (lost_after p low now).phase s (lost_quiet p low now quiet) sends

@@ -1,4 +1,4 @@
-use Rattle.std.proofs.Common.{◌≡◌, ℕ, ◌+◌, ◌-◌, ◌*◌, ◌≤◌, Bool, true, false, inl, inr, refl, sym, ◌∙◌, ap, subst, arith, if◌then◌else◌, nat_lt, nat_le}
+use Rattle.std.proofs.Common.{◌≡◌, ℕ, ◌+◌, ◌-◌, ◌*◌, ◌≤◌, Bool, true, false, not, inl, inr, refl, sym, ◌∙◌, ap, subst, arith, if◌then◌else◌, nat_lt, nat_le}
 use Rattle.std.proofs.lemmas.Bool.Decides.{nat_tests}
 use Rattle.dali_port.specs.Courses.{Course}
 use Rattle.dali_port.specs.Courses as course
@@ -9,7 +9,12 @@ use Rattle.dali_port.specs.Times.{half_bit}
 use Rattle.dali_port.specs.Frames.{driven_in, same, agreed_by, compared_by, compared, turned, next_of, sent_beyond, sent_until}
 use Rattle.dali_port.specs.Ports.{broken_at, until_in, until, edged, lost_in, lost, on_course}
 use Rattle.dali_port.specs.Calls.{is_backwards, timed, timer_after, same_level, edge_after, lost_after}
+use Rattle.dali_port.specs.Calls.{is_free, send_after}
+use Rattle.dali_port.specs.Orders.{refusal_of}
+use Rattle.dali_port.specs.declared.orders.Order.{Order}
 use Rattle.dali_port.specs.Laws.{GoesOn}
+use Rattle.dali_port.specs.Runs.{Call, Sends, Times, Turns, Loses, time_of, after}
+use Rattle.dali_port.proofs.Words.{send_keeps}
 
 -- A FRAME GOES ON half bit by half bit.
 
@@ -125,3 +130,15 @@ edge_goes p low now s t was is =
     (subst (λ x. (if is_backwards p now then p.phase else (if same_level p.is_low low then (lost_in x p low now).phase
     else (edged (until_in x (record p { called = now }) now) low now).phase)) ≡ Sending t) was
     (sym (three_phase (is_backwards p now) (same_level p.is_low low) p (lost p low now) (edged (until p now) low now)) ∙ is))
+
+send_goes : (p : Port) (order : Order) (now : ℕ) (s t : Sent) → p.phase ≡ Sending s → (send_after p order now).phase ≡ Sending t → GoesOn s t now
+send_goes p order now s t was is =
+    stays_goes p s t now was
+    (sym (ap (λ (x : Port). x.phase)
+    (send_keeps (is_backwards p now) (is_free p.phase) (refusal_of order) p order now (ap (λ ph. not (is_free ph)) was))) ∙ is)
+
+pub goes_on : (p : Port) (c : Call) (s t : Sent) → p.phase ≡ Sending s → (after p c).phase ≡ Sending t → GoesOn s t (time_of c)
+goes_on p (Sends order now) s t was is = send_goes p order now s t was is
+goes_on p (Times now) s t was is = timer_goes p now s t was is
+goes_on p (Turns low now) s t was is = edge_goes p low now s t was is
+goes_on p (Loses low now) s t was is = lost_goes p low now s t was is

@@ -6,3 +6,4 @@ mod Runs
 mod Ends
 mod Stretches
 mod Heard
+mod Bounds

@@ -25,6 +25,7 @@ use Rattle.dali_port.specs.Calls.{is_backwards, also, may_begin, is_too_late, ti
 use Rattle.dali_port.specs.Calls.{same_level, edge_after, edge_told, lost_after, lost_told, refused, is_gone}
 use Rattle.dali_port.specs.Calls.{send_after, send_told, send_after_by, send_told_by}
 use Rattle.dali_port.specs.Laws.{is_busy, IsOneWord, TellsOne, HandsIn}
+use Rattle.dali_port.specs.Runs.{Call, Sends, Times, Turns, Loses, HasOneWord}
 
 -- EACH FRAME HAS ONE WORD, phase by phase and call by call.
 
@@ -226,3 +227,16 @@ send_one p order now = send_by (refused p order now) p order now refl
 
 pub was_free : (p : Port) (order : Order) (now : ℕ) → refused p order now ≡ None → p.phase ≡ Free
 was_free p order now is = free_is p.phase (not_refused (is_backwards p now) (is_free p.phase) (refusal_of order) is)
+
+pub one_word : (p : Port) (c : Call) → HasOneWord p c
+one_word p (Sends order now) = send_one p order now
+one_word p (Times now) = timer_one p now
+one_word p (Turns low now) = edge_one p low now
+one_word p (Loses low now) = lost_one p low now
+
+-- one is not taken while another is under way
+pub send_keeps : (back free : Bool) (o : Option Refusal) (p : Port) (order : Order) (now : ℕ) → not free ≡ true
+    → send_after_by (if back then Some Backwards else (if free then o else Some Busy)) p order now ≡ p
+send_keeps true free o p order now busy = refl
+send_keeps false true o p order now busy = absurd (cc)
+send_keeps false false o p order now busy = refl

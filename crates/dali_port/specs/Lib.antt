@@ -8,3 +8,4 @@ pub mod Calls
 pub mod Laws
 pub mod Runs
 pub mod Stretches
+pub mod Bounds

@@ -5,7 +5,7 @@ use Rattle.dali_frame.specs.declared.frames.Forward.{Forward}
 use Rattle.dali_wire.specs.declared.receiver.Frame.{Frame as Told-frame}
 use Rattle.dali_wire.specs.declared.receiver.Frame.TheVariants as read
 use Rattle.dali_port.specs.declared.orders.Order.{Order}
-use Rattle.dali_port.specs.State.{Phase}
+use Rattle.dali_port.specs.State.{Phase, Sent}
 use Rattle.dali_port.specs.State.{Free, Waiting, Sending, Breaking}
 use Rattle.dali_port.specs.State.{Listening}
 use Rattle.dali_port.specs.State.{Port}
@@ -15,7 +15,7 @@ use Rattle.dali_port.specs.Orders.{is_randomise}
 use Rattle.dali_port.specs.Ports.{follows}
 use Rattle.dali_port.specs.Calls.{Answered, send_after, send_told, timer_after, timer_told}
 use Rattle.dali_port.specs.Calls.{edge_after, edge_told, lost_after, lost_told}
-use Rattle.dali_port.specs.Laws.{is_sending, is_busy}
+use Rattle.dali_port.specs.Laws.{is_sending, is_busy, TellsOne, HandsIn, Begins}
 
 -- A RUN: calls of a port, one after the other, each with its time
 pub data Call : Type 0 where
@@ -45,6 +45,19 @@ told_by p (Loses low now) = lost_told p low now
 abbrev pub after_all : Port → List Call → Port
 after_all p [] = p
 after_all p (c ∷ calls) = after_all (after p c) calls
+
+-- ONE WORD FOR EACH FRAME, and the timer alone begins one, call by call
+abbrev pub HasOneWord : Port → Call → Type 0
+HasOneWord p (Sends order now) = HandsIn p (send_after p order now) (send_told p order now)
+HasOneWord p (Times now) = TellsOne p (timer_after p now) (timer_told p now)
+HasOneWord p (Turns low now) = TellsOne p (edge_after p low now) (edge_told p low now)
+HasOneWord p (Loses low now) = TellsOne p (lost_after p low now) (lost_told p low now)
+
+abbrev pub BeginsBy : Port → Sent → Call → Type 0
+BeginsBy p s (Sends order now) = ⊥
+BeginsBy p s (Times now) = Begins p s now
+BeginsBy p s (Turns low now) = ⊥
+BeginsBy p s (Loses low now) = ⊥
 
 -- WHICH FRAME ENDS IN A CALL: one of others that it tells as read, and one of the port that is sent
 -- no more, whole or destroyed

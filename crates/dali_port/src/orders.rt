@@ -2,7 +2,7 @@
 
 ghost use Rattle.std.specs.Prelude.{◌≡◌};
 ghost use Rattle.dali_port.specs.Times.{settling_of, span_of};
-ghost use Rattle.dali_port.specs.Orders.{is_later, is_randomise, heard_word, refusal_of};
+ghost use Rattle.dali_port.specs.Orders.{refusal_of};
 
 use dali_frame::{Answer, Forward, Priority};
 use thiserror::Error;
@@ -45,80 +45,41 @@ pub enum Word {
 /// Why a call was refused. It changed nothing.
 #[derive(Clone, Copy, Debug, PartialEq, Eq, Error)]
 pub enum Refusal {
-    /// The time is before that of the last call.
     #[error("the time runs backwards")]
     Backwards,
-    /// The last frame has not ended.
     #[error("a frame is under way")]
     Busy,
-    /// The second frame of a pair is a later frame of a transaction.
     #[error("the second frame of a pair has priority 1")]
     NotLater,
-    /// What was drawn is beyond the span of the priority.
     #[error("drawn beyond the span of the priority")]
     BeyondSpan,
 }
 
-/// How long the bus is at rest before a frame, at least, in µs (IEC 62386-101:2014, multi-master transmitter frame
-/// sequence timing).
-pub(crate) fn settling(priority: u8) -> u64
-    ensures { result ≡ settling_of priority }
+/// How long the bus is at rest before a frame of a priority, at least, and how much longer it may be, in µs
+/// (IEC 62386-101:2014, multi-master transmitter frame sequence timing).
+pub(crate) fn rest_of(priority: u8) -> (u64, u32)
+    ensures { result ≡ (settling_of priority, span_of priority) }
 {
     match priority {
-        1 => 13_500,
-        2 => 14_900,
-        3 => 16_300,
-        4 => 17_900,
-        _ => 19_500,
+        1 => (13_500, 1_200),
+        2 => (14_900, 1_200),
+        3 => (16_300, 1_400),
+        4 => (17_900, 1_400),
+        _ => (19_500, 1_600),
     }
-}
-
-/// How much longer it may be at rest.
-fn span(priority: u8) -> u32
-    ensures { result ≡ span_of priority }
-{
-    match priority {
-        1 | 2 => 1_200,
-        3 | 4 => 1_400,
-        _ => 1_600,
-    }
-}
-
-/// RANDOMISE, `A7 00` (IEC 62386-102:2014).
-pub(crate) fn is_randomise(frame: Forward) -> bool
-    ensures { result ≡ is_randomise frame }
-{
-    frame.address_byte == 0xA7 && frame.opcode_byte == 0
 }
 
 impl Order {
-    /// Whether it goes on with a transaction.
-    pub(crate) fn is_later(&self) -> bool
-        ensures { result ≡ is_later self.now }
-    {
-        self.priority.number() == 1
-    }
-
     /// Why no port takes it.
     pub(crate) fn refusal(&self) -> Option<Refusal>
         ensures { result ≡ refusal_of self.now }
     {
-        if matches!(self.half, Half::Second) && !self.is_later() {
+        if matches!(self.half, Half::Second) && self.priority.number() != 1 {
             Some(Refusal::NotLater)
-        } else if self.drawn > span(self.priority.number()) {
+        } else if self.drawn > rest_of(self.priority.number()).1 {
             Some(Refusal::BeyondSpan)
         } else {
             None
         }
-    }
-}
-
-/// The word for what a window heard: after a frame that no gear answers, anything heard may have disturbed it.
-pub(crate) fn heard_word(asks: bool, heard: Answer) -> Word
-    ensures { result ≡ heard_word asks heard }
-{
-    match (asks, heard) {
-        (true, _) | (false, Answer::Silence) => Word::Heard(heard),
-        (false, Answer::Byte(_) | Answer::Damaged) => Word::Destroyed,
     }
 }

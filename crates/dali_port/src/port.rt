@@ -1,34 +1,30 @@
 //! The calls of a port.
 
-ghost use Rattle.std.specs.Prelude.{◌≡◌, ◌^◌, ◌-◌, min, true, Some, None, IsErr, if◌then◌else◌};
-ghost use Rattle.dali_port.specs.State.{seen, receiver_of, order_of, sent_of, after_of, window_of};
-ghost use Rattle.dali_port.specs.Ports.{since_edge, spoilt, noted, noted_told, has_no_power, rested, rest_event, only};
-ghost use Rattle.dali_port.specs.Ports.{broken_at, whole_at, broken_off, break_word, listened, listened_word};
-ghost use Rattle.dali_port.specs.Ports.{until, event_until, edge_in, edged, lapsed_word, with_level, lost_window};
-ghost use Rattle.dali_port.specs.Ports.{lost_in, lost};
-ghost use Rattle.dali_wire.specs.Reception.{receiver_after, receiver_at, told_of};
-ghost use Rattle.dali_wire.specs.Windows.{window_at, told_after};
-ghost use Rattle.dali_port.specs.Calls.{may_begin, is_too_late, begun, timed, timed_word, also, answered};
+ghost use Rattle.std.specs.Prelude.{◌≡◌, ◌^◌, ◌-◌, min, true, None, IsErr};
+ghost use Rattle.dali_port.specs.State.{seen, order_of, sent_of, after_of, window_of};
+ghost use Rattle.dali_port.specs.Ports.{since_edge, noted, rested, rest_event, only, broken_at, whole_at};
+ghost use Rattle.dali_port.specs.Ports.{listened, listened_word, until, event_until, edge_in, edged, lapsed_word};
+ghost use Rattle.dali_port.specs.Ports.{lost_in, lost, with_level};
+ghost use Rattle.dali_wire.specs.Reception.{receiver_after};
+ghost use Rattle.dali_port.specs.Calls.{timed, timed_word, also, answered, taken, taken_word, drive_of};
+ghost use Rattle.dali_port.specs.Calls.{window_due, begins_at, rest_due};
 ghost use Rattle.dali_port.specs.Calls.{timer_after, timer_told, edge_after, edge_told, lost_after, lost_told};
-ghost use Rattle.dali_port.specs.Calls.{refused, is_gone, send_after, send_told, drive_of};
-ghost use Rattle.dali_port.specs.Calls.{window_due, begins_at, rest_due, taken, taken_word};
-ghost use Rattle.dali_port.specs.declared.orders.Word.TheVariants.{Lapsed};
+ghost use Rattle.dali_port.specs.Calls.{refused, send_after, send_told};
 
-use crate::frames::HALF_BIT;
-use crate::orders::{Half, Order, Refusal, Word, heard_word, is_randomise, settling};
+use crate::frames::{HALF_BIT, level};
+use crate::orders::{Half, Order, Refusal, Word, rest_of};
 use crate::state::{BREAKING, Drive, Event, FREE, LISTENING, Port, Read, SENDING, WAITING};
 use dali_frame::{Answer, Forward};
-use dali_wire::{Frame, Reading, Receiver, Told, Window};
+use dali_wire::{Frame, Receiver};
 
 /// How long a break takes, in µs (IEC 62386-101:2014, collision recovery).
 const BREAK: u64 = 1_300;
 
-/// How long a pair takes at most, from the beginning of its first frame to the end of its second, in µs
-/// (IEC 62386-101:2014, send-twice forward frames).
+/// How long a pair takes at most, in µs (IEC 62386-101:2014, send-twice forward frames).
 const PAIR: u64 = 100_000;
 
-/// The 17 bits of a forward frame, in µs.
-const FRAME: u64 = 34 * HALF_BIT;
+/// How long after the beginning of the first frame of a pair the second one begins at most: it has 17 bits.
+const SECOND: u64 = PAIR - 34 * HALF_BIT;
 
 /// How long gear draw after a pair of RANDOMISE, in µs (IEC 62386-102:2014, RANDOMISE).
 const DRAW: u64 = 100_000;
@@ -37,28 +33,17 @@ const DRAW: u64 = 100_000;
 const POWER: u64 = 500_000;
 
 /// When a receiver and a window are to be asked, in µs (`dali_wire`).
-const STOP: u64 = 2_400;
+const STOP: u32 = 2_400;
 
 const WINDOW: u32 = 12_401;
 
 const GIVEN_UP: u32 = 50_001;
 
-/// So many µs, as receivers count them.
-fn counted(micros: u64) -> u32
-    ensures { result ≡ min micros (2 ^ 32 - 1) }
+/// How many µs passed between two times, as receivers count them.
+fn passed(from: u64, to: u64) -> u32
+    ensures { result ≡ min (to - from) (2 ^ 32 - 1) }
 {
-    micros.min(0xFFFF_FFFF) as u32
-}
-
-/// A receiver of which nothing is known but the level of the bus.
-fn spoilt(is_low: bool) -> Receiver
-    ensures { result ≡ spoilt is_low }
-{
-    Receiver {
-        reading: Reading::Spoilt,
-        is_low,
-        lasted: 0,
-    }
+    to.saturating_sub(from).min(0xFFFF_FFFF) as u32
 }
 
 const NOTHING: Event = Event {
@@ -66,40 +51,18 @@ const NOTHING: Event = Event {
     read: None,
 };
 
-/// A word is told too, if there is one.
-fn tell(event: &mut Event, word: Option<Word>)
-    ensures { event.new ≡ also event.old word }
-{
-    if word.is_some() {
-        event.word = word;
-    }
-}
-
-/// A window in which an edge may have been lost.
-fn lost_window(window: Window, is_low: bool, since: u32) -> Window
-    ensures { result ≡ lost_window window is_low since }
-{
-    Window {
-        receiver: spoilt(is_low),
-        elapsed: window.elapsed.saturating_add(since),
-        heard: Answer::Damaged,
-        has_pulse: true,
-    }
-}
-
 impl Port {
-    /// How many µs ago the last edge was.
     fn since(&self, now: u64) -> u32
         ensures { result ≡ since_edge (seen self.now) now }
     {
-        counted(now.saturating_sub(self.edge))
+        passed(self.edge, now)
     }
 
     /// A frame that gear may have taken ended at this time.
     fn note(&mut self, frame: Forward, at: u64)
         ensures { seen self.new ≡ noted (seen self.old) frame at }
     {
-        if is_randomise(frame) {
+        if frame.address_byte == 0xA7 && frame.opcode_byte == 0 {
             if self.has_randomise != 0 && at.saturating_sub(self.randomise) <= PAIR {
                 self.has_draws = 1;
                 self.draws = at;
@@ -109,51 +72,12 @@ impl Port {
         }
     }
 
-    fn note_told(&mut self, told: Option<Told>)
-        ensures { seen self.new ≡ noted_told (seen self.old) told }
-    {
-        if let Some(
-            Told {
-                frame: Frame::Forward(frame),
-                ..
-            },
-        ) = told
-        {
-            self.note(frame, self.edge);
-        }
-    }
-
-    fn has_no_power(&self, now: u64) -> bool
-        ensures { result ≡ has_no_power (seen self.now) now }
-    {
-        self.is_low != 0 && now.saturating_sub(self.edge) >= POWER
-    }
-
-    /// Whether nothing has ended that is read, so long after the last edge.
-    fn is_reading_on(&self, since: u32) -> bool
-        ensures { result ≡ true → (told_of (receiver_of self.now) since ≡ None)
-            × (receiver_at (receiver_of self.now) since ≡ receiver_of self.now) }
-    {
-        self.was_low != 0 || since < STOP as u32 || self.reading == 0
-    }
-
-    /// Whether the window is not over yet, and nothing in it.
-    fn is_listening_on(&self, since: u32) -> bool
-        ensures { result ≡ true → (told_after (window_of (seen self.now) (after_of self.now)) since ≡ None)
-            × (window_at (window_of (seen self.now) (after_of self.now)) since
-            ≡ window_of (seen self.now) (after_of self.now)) }
-    {
-        let passed = self.elapsed.saturating_add(since);
-        self.is_reading_on(since) && (passed < WINDOW || self.reading != 0 && passed < GIVEN_UP)
-    }
-
-    /// No frame of the port is on the bus.
     fn rest(&mut self, now: u64, event: &mut Event)
         requires { event.old ≡ only None }
         ensures told { event.new ≡ rest_event (seen self.old) now }
         ensures port { seen self.new ≡ rested (seen self.old) now }
     {
-        if self.has_no_power(now) {
+        if self.is_low != 0 && now.saturating_sub(self.edge) >= POWER {
             if self.phase == WAITING {
                 event.word = Some(Word::Lapsed);
             }
@@ -166,14 +90,16 @@ impl Port {
             return;
         }
         let since = self.since(now);
-        if self.is_reading_on(since) {
+        if self.was_low != 0 || since < STOP || self.reading == 0 {
             return;
         }
         let mut receiver = self.receiver();
         let told = receiver.time(since);
         self.set_receiver(&receiver);
-        self.note_told(told);
         if let Some(told) = told {
+            if let Frame::Forward(frame) = told.frame {
+                self.note(frame, self.edge);
+            }
             event.read = Some(Read::Frame(told));
         }
     }
@@ -193,49 +119,36 @@ impl Port {
         ensures { seen self.new ≡ whole_at (seen self.old) (sent_of self.old) now }
     {
         let frame = self.frame();
-        self.set_window(&Window {
-            elapsed: counted(self.edge.saturating_sub(self.driven)),
-            ..Window::new()
-        });
+        self.phase = LISTENING;
+        self.elapsed = passed(self.driven, self.edge);
+        self.heard = 0;
+        self.has_pulse = 0;
+        self.set_receiver(&Receiver::new());
         self.note(frame, now);
     }
 
-    fn break_off(&mut self, now: u64) -> Option<Word>
-        ensures told { result ≡ break_word self.old.since now }
-        ensures port { seen self.new ≡ broken_off (seen self.old) self.old.since now }
-    {
-        if now.saturating_sub(self.since) < BREAK {
-            return None;
-        }
-        self.phase = FREE;
-        self.set_receiver(&spoilt(self.is_low != 0));
-        Some(Word::Destroyed)
-    }
-
-    fn listen(&mut self, now: u64) -> Option<Word>
-        ensures told { result ≡ listened_word (seen self.old) (after_of self.old) now }
+    fn listen(&mut self, now: u64, event: &mut Event)
+        requires { event.old ≡ only None }
+        ensures told { event.new ≡ only (listened_word (seen self.old) (after_of self.old) now) }
         ensures port { seen self.new ≡ listened (seen self.old) (after_of self.old) now }
     {
         let since = self.since(now);
-        if self.is_listening_on(since) {
-            self.phase = LISTENING;
-            return None;
+        let elapsed = self.elapsed.saturating_add(since);
+        let is_over = elapsed >= WINDOW && (self.reading == 0 || elapsed >= GIVEN_UP);
+        self.phase = LISTENING;
+        if !is_over && (self.was_low != 0 || since < STOP || self.reading == 0) {
+            return;
         }
         let mut window = self.window();
         let told = window.time(since);
-        match told {
-            None => {
-                self.set_window(&window);
-                None
-            }
-            Some(heard) => {
-                let word = heard_word(self.asks != 0, heard);
-                if matches!(word, Word::Destroyed) {
-                    self.is_over = 1;
-                }
-                self.phase = FREE;
-                self.set_receiver(&window.receiver);
-                Some(word)
+        self.set_window(&window);
+        if let Some(heard) = told {
+            self.phase = FREE;
+            if self.asks != 0 || matches!(heard, Answer::Silence) {
+                event.word = Some(Word::Heard(heard));
+            } else {
+                self.is_over = 1;
+                event.word = Some(Word::Destroyed);
             }
         }
     }
@@ -250,8 +163,14 @@ impl Port {
         match self.phase {
             FREE | WAITING => self.rest(now, event),
             SENDING => self.send_on(now),
-            BREAKING => event.word = self.break_off(now),
-            _ => event.word = self.listen(now),
+            BREAKING => {
+                if now.saturating_sub(self.since) >= BREAK {
+                    self.phase = FREE;
+                    self.spoil(self.is_low != 0);
+                    event.word = Some(Word::Destroyed);
+                }
+            }
+            _ => self.listen(now, event),
         }
     }
 
@@ -266,14 +185,12 @@ impl Port {
         }
     }
 
-    /// The word of a later frame that waits, which lapses once others sent.
-    fn lapsing(&self) -> Option<Word>
-        ensures { result ≡ lapsed_word (seen self.now).phase }
+    /// A later frame that waits lapses once others sent.
+    fn lapse(&self, event: &mut Event)
+        ensures { event.new ≡ also event.old (lapsed_word (seen self.now).phase) }
     {
         if self.phase == WAITING && self.priority == 1 {
-            Some(Word::Lapsed)
-        } else {
-            None
+            event.word = Some(Word::Lapsed);
         }
     }
 
@@ -306,7 +223,7 @@ impl Port {
                 }
             }
             SENDING => {
-                if self.drives_low() != is_low {
+                if level(self.frame(), self.at_half) != is_low {
                     self.destroy(now);
                 }
             }
@@ -319,12 +236,11 @@ impl Port {
         }
     }
 
-    /// An edge to another level.
     fn turn(&mut self, is_low: bool, now: u64, event: &mut Event)
         ensures told { event.new ≡ also event.old (lapsed_word (seen self.old).phase) }
         ensures port { seen self.new ≡ edged (seen self.old) is_low now }
     {
-        tell(event, self.lapsing());
+        self.lapse(event);
         self.turn_in(is_low, now);
         self.set_level(is_low, now);
     }
@@ -335,74 +251,85 @@ impl Port {
     {
         self.is_over = 1;
         match self.phase {
-            FREE => self.set_receiver(&spoilt(is_low)),
+            FREE => self.spoil(is_low),
             WAITING => {
                 if self.priority == 1 {
                     self.phase = FREE;
-                    self.set_receiver(&spoilt(is_low));
+                    self.spoil(is_low);
                 } else {
-                    self.set_receiver(&spoilt(is_low));
+                    self.spoil(is_low);
                 }
             }
             SENDING => self.destroy(now),
             BREAKING => {}
             _ => {
-                let window = lost_window(self.window(), is_low, self.since(now));
-                self.set_window(&window);
+                self.phase = LISTENING;
+                self.elapsed = self.elapsed.saturating_add(self.since(now));
+                self.heard = 2;
+                self.has_pulse = 1;
+                self.spoil(is_low);
             }
         }
     }
 
-    /// An edge may have been lost.
     fn lose(&mut self, is_low: bool, now: u64, event: &mut Event)
         ensures told { event.new ≡ also event.old (lapsed_word (seen self.old).phase) }
         ensures port { seen self.new ≡ lost (seen self.old) is_low now }
     {
-        tell(event, self.lapsing());
+        self.lapse(event);
         self.lose_in(is_low, now);
         self.set_level(is_low, now);
     }
 
-    /// Whether a frame that waits may begin.
-    fn may_begin(&self, now: u64) -> bool
-        ensures { result ≡ may_begin (seen self.now) (order_of self.now) now }
+    /// A frame that waits begins or lapses.
+    fn tick(&mut self, now: u64, event: &mut Event)
+        ensures told { event.new ≡ also event.old (timed_word (seen self.old).phase (seen self.old) now) }
+        ensures port { seen self.new ≡ timed (seen self.old) now }
     {
-        self.is_low == 0
-            && now.saturating_sub(self.edge) >= settling(self.priority) + u64::from(self.drawn)
-            && (self.has_draws == 0 || now.saturating_sub(self.draws) >= DRAW)
-    }
-
-    fn is_too_late(&self, now: u64) -> bool
-        ensures { result ≡ is_too_late (seen self.now) (order_of self.now) now }
-    {
-        self.half > 1 && !(self.has_first != 0 && now.saturating_sub(self.first) <= PAIR - FRAME)
-    }
-
-    /// A frame that waits begins, or lapses.
-    fn begin(&mut self, now: u64) -> Option<Word>
-        ensures told { result ≡ (if is_too_late (seen self.old) (order_of self.old) now then Some Lapsed else None) }
-        ensures port { seen self.new ≡ begun (seen self.old) (order_of self.old) now }
-    {
-        if self.is_too_late(now) {
+        if self.phase != WAITING {
+            return;
+        }
+        let rest = rest_of(self.priority).0 + u64::from(self.drawn);
+        let is_rested = self.is_low == 0 && now.saturating_sub(self.edge) >= rest;
+        let is_drawn = self.has_draws == 0 || now.saturating_sub(self.draws) >= DRAW;
+        if !is_rested || !is_drawn {
+            return;
+        }
+        let is_in_time = self.has_first != 0 && now.saturating_sub(self.first) <= SECOND;
+        if self.half > 1 && !is_in_time {
             self.is_over = 1;
             self.phase = FREE;
-            return Some(Word::Lapsed);
+            event.word = Some(Word::Lapsed);
+            return;
         }
         self.is_over = 0;
         self.has_first = u8::from(self.half == 1);
         self.first = now;
-        self.begin_bits(now);
-        None
+        self.phase = SENDING;
+        self.at_half = 0;
+        self.since = now;
+        self.agreed = now;
+        self.driven = now;
     }
 
-    fn tick(&mut self, now: u64) -> Option<Word>
-        ensures told { result ≡ timed_word (seen self.old).phase (seen self.old) now }
-        ensures port { seen self.new ≡ timed (seen self.old) now }
+    /// A frame is taken, unless its transaction is over.
+    fn take(&mut self, order: &Order, event: &mut Event)
+        ensures told { event.new ≡ also event.old (taken_word (seen self.old) order.now) }
+        ensures port { seen self.new ≡ taken (seen self.old) order.now }
     {
-        if self.phase == WAITING && self.may_begin(now) {
-            return self.begin(now);
+        let is_alone = matches!(order.half, Half::Second) && self.has_first == 0;
+        if order.priority.number() == 1 && (self.is_over != 0 || is_alone) {
+            self.is_over = 1;
+            event.word = Some(Word::Lapsed);
+            return;
         }
-        None
+        self.phase = WAITING;
+        self.address_byte = order.frame.address_byte;
+        self.opcode_byte = order.frame.opcode_byte;
+        self.priority = order.priority.number();
+        self.half = order.half as u8;
+        self.asks = u8::from(order.asks);
+        self.drawn = order.drawn;
     }
 
     /// The timer.
@@ -416,8 +343,7 @@ impl Port {
         }
         *event = NOTHING;
         self.until(now, event);
-        let word = self.tick(now);
-        tell(event, word);
+        self.tick(now, event);
         Ok(())
     }
 
@@ -466,26 +392,6 @@ impl Port {
         }
     }
 
-    /// Whether the transaction of a later frame is over.
-    fn is_gone(&self, order: &Order) -> bool
-        ensures { result ≡ is_gone (seen self.now) order.now }
-    {
-        order.is_later()
-            && (self.is_over != 0 || matches!(order.half, Half::Second) && self.has_first == 0)
-    }
-
-    fn take(&mut self, order: &Order) -> Option<Word>
-        ensures told { result ≡ taken_word (seen self.old) order.now }
-        ensures port { seen self.new ≡ taken (seen self.old) order.now }
-    {
-        if self.is_gone(order) {
-            self.is_over = 1;
-            return Some(Word::Lapsed);
-        }
-        self.set_order(order);
-        None
-    }
-
     /// A frame is handed in.
     pub fn send(&mut self, order: &Order, now: u64, event: &mut Event) -> Result<(), Refusal>
         ensures told { answered result event.new ≡ send_told (seen self.old) order.now now }
@@ -497,8 +403,7 @@ impl Port {
         }
         *event = NOTHING;
         self.until(now, event);
-        let word = self.take(order);
-        tell(event, word);
+        self.take(order, event);
         Ok(())
     }
 
@@ -506,43 +411,35 @@ impl Port {
     fn begins(&self) -> u64
         ensures { result ≡ begins_at (seen self.now) (order_of self.now) }
     {
-        let rest = settling(self.priority) + u64::from(self.drawn);
-        let draws = if self.has_draws == 0 {
-            0
-        } else {
-            self.draws.saturating_add(DRAW)
-        };
-        self.edge.saturating_add(rest).max(draws)
+        let rest = rest_of(self.priority).0 + u64::from(self.drawn);
+        let rested = self.edge.saturating_add(rest);
+        if self.has_draws == 0 {
+            return rested;
+        }
+        rested.max(self.draws.saturating_add(DRAW))
     }
 
     fn rest_due(&self, begin: Option<u64>) -> Option<u64>
         ensures { result ≡ rest_due (seen self.now) begin }
     {
-        if self.is_low != 0 {
-            if self.is_powerless != 0 && begin.is_none() {
-                None
-            } else {
-                Some(self.edge.saturating_add(POWER))
-            }
-        } else if self.reading == 0 {
-            begin
-        } else {
-            Some(self.edge.saturating_add(STOP))
+        match (self.is_low, self.reading) {
+            (0, 0) => begin,
+            (0, _) => Some(self.edge.saturating_add(u64::from(STOP))),
+            _ if self.is_powerless != 0 && begin.is_none() => None,
+            _ => Some(self.edge.saturating_add(POWER)),
         }
     }
 
     fn window_due(&self) -> u64
         ensures { result ≡ window_due (seen self.now) (window_of (seen self.now) (after_of self.now)) }
     {
-        let left = u64::from(WINDOW.saturating_sub(self.elapsed));
-        let left = if self.is_low != 0 {
-            u64::from(GIVEN_UP.saturating_sub(self.elapsed))
-        } else if self.reading == 0 {
-            left
-        } else {
-            left.max(STOP)
+        let left = WINDOW.saturating_sub(self.elapsed);
+        let left = match (self.is_low, self.reading) {
+            (0, 0) => left,
+            (0, _) => left.max(STOP),
+            _ => GIVEN_UP.saturating_sub(self.elapsed),
         };
-        self.edge.saturating_add(left)
+        self.edge.saturating_add(u64::from(left))
     }
 
     /// What to drive, and when to call again; look after each call.
@@ -553,9 +450,9 @@ impl Port {
             FREE => (false, self.rest_due(None), false),
             WAITING => (false, self.rest_due(Some(self.begins())), false),
             SENDING => (
-                self.drives_low(),
+                level(self.frame(), self.at_half),
                 Some(self.since.saturating_add(HALF_BIT)),
-                self.drives_low_next(),
+                level(self.frame(), self.at_half.saturating_add(1)),
             ),
             BREAKING => (true, Some(self.since.saturating_add(BREAK)), false),
             _ => (false, Some(self.window_due()), false),

@@ -628,13 +628,20 @@ static void dispatch(struct event event)
     }
 }
 
-static struct view view_drawn(uint32_t most_ppm)
+/* Up to so many; one in four is at an edge of that. */
+static uint32_t up_to(uint32_t most)
 {
-    struct view view = {(int32_t)below(2 * most_ppm + 1) - (int32_t)most_ppm, (uint32_t)chance_next(&chance), 0, 0, 0, 0, 0, 0, 0};
+    return below(4) ? below(most + 1) : below(2) * most;
+}
 
-    view.rise = below(24);
-    view.fall = below(14);
+static struct view view_drawn(void)
+{
+    int32_t parts = (int32_t)up_to(2000 * CLOCK) - 1000 * CLOCK;
+    struct view view = {parts, (uint32_t)chance_next(&chance), 0, 0, 0, 0, 0, 0, 0};
+
     view.jitter = below(3);
+    view.rise = up_to(DIFFER - view.jitter);
+    view.fall = up_to(DIFFER - view.jitter);
     return view;
 }
 
@@ -649,7 +656,7 @@ static void reset(uint32_t port_count, uint32_t gear_count)
     memset(hosts, 0, sizeof hosts);
     memset(readers, 0, sizeof readers);
     for (uint32_t at = 0; at < gear; at++) {
-        readers[at].view = view_drawn(10000);
+        readers[at].view = view_drawn();
         dali_receiver_new(&readers[at].receiver);
     }
 }
@@ -657,7 +664,7 @@ static void reset(uint32_t port_count, uint32_t gear_count)
 static void host_up(struct host *it, moment when)
 {
     (void)when;
-    it->view = view_drawn(5000);
+    it->view = view_drawn();
     it->late = below(6);
     it->length = 1 + below(6);
     it->has_unit = below(2) == 0;

@@ -1,5 +1,6 @@
-use Rattle.dali_port.proofs.Words.{send_one, timer_one, edge_one, lost_one}
+use Rattle.dali_port.proofs.Words.{one_word}
+use Rattle.dali_port.proofs.Ends.{words_are}
 use Rattle.dali_port.proofs.laws.each_frame_has_one_word.Goals as goal
 
 pub returns : goal.returns
-returns c = record { send = send_one; timer = timer_one; edge = edge_one; lost = lost_one }
+returns c = record { call = one_word; run = words_are }
