@@ -914,7 +914,7 @@ int main(int count, char **words)
             trace = count > 4 ? fopen(name, "w") : NULL;
             if (trace)
                 fprintf(trace, "$timescale 1 us $end\n$var wire 1 ! bus $end\n$enddefinitions $end\n#0\n1!\n");
-            try_site(seed + trial);
+            try_site((seed << 32) + trial);
             if (trace) {
                 fprintf(trace, "#%llu\n", (unsigned long long)now + 100000);
                 fclose(trace);
@@ -922,7 +922,7 @@ int main(int count, char **words)
         }
     } else {
         for (trial = 0; frames_told < many; trial++)
-            try_frames(seed + trial);
+            try_frames((seed << 32) + trial);
     }
     printf("%u trials, %llu frames: silence %llu, byte %llu, damaged %llu, destroyed %llu, lapsed %llu; %llu read, %llu edges, %llu overruns, %llu late, %llu garbled\n",
            trial, (unsigned long long)frames_told, (unsigned long long)told[1], (unsigned long long)told[2], (unsigned long long)told[3],
