@@ -313,6 +313,17 @@ def replayed(rows: list[Row], block: tuple[int, int]) -> tuple[Kept, str | None]
 # What the checks over many sites have in common.
 
 
+def kill_at(count: int, byte: int | None = None, moment: str = "after", is_cut: bool = False, delay: float = 0) -> dict[str, typing.Any]:
+    """A kill of the program at its count-th frame with this address byte, or with any (commission_between says when)."""
+    return {"byte": byte, "count": count, "moment": moment, "is_cut": is_cut, "delay": delay}
+
+
+def drawn_kill(chance: random.Random, most: int, few: int, address_bytes: collections.abc.Sequence[int | None]) -> dict[str, typing.Any]:
+    """A kill at random: at one of so many frames, or of so few with one of these address bytes."""
+    moment, byte = chance.choice(["before", "unheard", "after"]), chance.choice(address_bytes)
+    return kill_at(chance.randint(1, most if byte is None else few), byte, moment, delay=10 ** chance.uniform(-5, -2))
+
+
 def options_of(text: str, parts: list[str], sites: int = 20) -> argparse.ArgumentParser:
     """The words of a check that has these parts, and tries so many sites if nothing is said."""
     options = argparse.ArgumentParser(description=text)
