@@ -9,3 +9,4 @@ mod News
 mod Apart
 mod System
 mod Machines
+mod Kept

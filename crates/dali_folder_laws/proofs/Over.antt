@@ -6,10 +6,10 @@ use Rattle.dali_replacement.specs.Swapping.{names_of}
 use Rattle.dali_commission_stores.specs.Settled.{IsEnded, IsSettled}
 use Rattle.dali_commission_stores.specs.Settling.{count_of}
 use Rattle.dali_folder_laws.specs.Folder.{Folder, IsSame}
-use Rattle.dali_folder_laws.specs.Moments.{Files, MayBegin, IsAt, IsAtSome, IsBefore}
-use Rattle.dali_folder_laws.specs.Stops.{Program, starting, Makes, Sees, Exchanges, Settles, SettleOften, ended_as}
+use Rattle.dali_folder_laws.specs.Moments.{Files, MayBegin, IsAt, IsAtSome}
+use Rattle.dali_folder_laws.specs.Stops.{Program, starting, Makes, Sees, Exchanges, SettleOften, ended_as}
 use Rattle.dali_folder_laws.proofs.Looked.{found}
-use Rattle.dali_folder_laws.proofs.Truths.{at_first, from_first, from_last}
+use Rattle.dali_folder_laws.proofs.Truths.{from_first, from_last}
 use Rattle.dali_folder_laws.proofs.Stopped.{Stands, same_at_some, synced, goes_on, goes_back, goes_nowhere, goes_back_nowhere}
 
 -- how a swap ends
@@ -72,12 +72,3 @@ settled_often swap files (suc more) x y may at (z, done, one, rest) =
 pub ended : (swap : Swap) (files : Files) (done : Bool) (x : Folder) → IsAt swap files (end_of swap done) x → ended_as swap files done x
 ended swap files true x is = from_last swap files x is
 ended swap files false x is = from_first swap files x is
-
-pub over_every_stop : (swap : Swap) (files : Files) (often : ℕ) (x z : Folder) (y w : Program) (done : Bool)
-    → MayBegin swap → IsBefore swap files x → Exchanges swap x y → SettleOften swap often y.folder z
-    → Settles swap z w done → w.runs ≡ true → ended_as swap files done w.folder
-over_every_stop swap files often x z y w done may is begun more last runs =
-    let at = exchanged swap files x y may (at_first swap files x is) begun in
-    let mid = settled_often swap files often y.folder z may at.0 more in
-    let end = settled swap files mid.0 (starting z) w done may mid.1 (starts swap files mid.0 (starting z) mid.1 mid.2) last in
-    ended swap files done w.folder (end.1 runs)

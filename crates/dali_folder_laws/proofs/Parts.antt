@@ -8,8 +8,8 @@ use Rattle.dali_replacement.specs.Swap.{lies_at, step_after, file_of, done}
 use Rattle.dali_replacement.specs.Swapping.{number_of, swap_text}
 use Rattle.dali_replacement.proofs.Moments.{within, own, others, back, others_back}
 use Rattle.dali_commission_stores.specs.Calls.{Wrote, Renamed, Removed}
-use Rattle.dali_commission_stores.specs.Settling.{new_at, journal_at, kept_at, IsNamed, IsDone, count_of}
-use Rattle.dali_folder_laws.specs.Folder.{Folder, IsSame, IsAfter, IsCalled}
+use Rattle.dali_commission_stores.specs.Settling.{new_at, journal_at, kept_at, IsNamed, count_of}
+use Rattle.dali_folder_laws.specs.Folder.{Folder, IsSame, IsAfter}
 use Rattle.dali_folder_laws.specs.Moments.{Part, Itself, New, Journal, Old, name_with, IsPart, AreApart, Files, part_of, IsAt}
 use Rattle.dali_folder_laws.proofs.Times.{IsReady, ready}
 
@@ -154,20 +154,3 @@ taken_back swap files m name x y apart named inside is after =
     (parts_as swap files m _ _ y (back (count_of swap) m inside)
     (removed swap files m name _ x y apart named (λ p at part. is.parts m p at inside part) after))
     (λ at none. after.1 at (not_its swap m name at Journal named none)) (λ i within other. others_back (count_of swap) m i inside within other) inside
-
--- A STEP, by its calls
-pub on : (swap : Swap) (files : Files) (m : ℕ) (s : Step) (x y : Folder) → AreApart swap → IsAt swap files m x → step_after (count_of swap) m ≡ Some s
-    → IsDone IsCalled swap s x y → IsAt swap files (m + 1) y
-on swap files m (Announce k) x y apart is due (name, named, (z, call, end)) =
-    subst (λ (f : Folder). IsAt swap files (m + 1) f) end (announced swap files m k name x z apart named due is call)
-on swap files m (SetAside k) x y apart is due (name, named, (z, call, end)) =
-    subst (λ (f : Folder). IsAt swap files (m + 1) f) end (kept swap files m k name x z apart named due is call)
-on swap files m (Place k) x y apart is due (name, named, (w, first, (z, call, end))) =
-    subst (λ (f : Folder). IsAt swap files (m + 1) f) end (put swap files m k name w z apart named due (same_at swap files m x w is first) call)
-on swap files m (Forget k) x y apart is due (name, named, (z, call, end)) =
-    subst (λ (f : Folder). IsAt swap files (m + 1) f) end (forgotten swap files m k name x z apart named due is call)
-
-pub to_the_one_before : (swap : Swap) (files : Files) (m : ℕ) (x y : Folder) → AreApart swap → m < count_of swap → IsAt swap files (m + 1) x
-    → IsDone IsCalled swap (Forget m) x y → IsAt swap files m y
-to_the_one_before swap files m x y apart inside is (name, named, (z, call, end)) =
-    subst (λ (f : Folder). IsAt swap files m f) end (taken_back swap files m name x z apart named inside is call)

@@ -43,6 +43,3 @@ IsTrueOf (Alone name) x = Unit {0}
 -- WHAT A STOP WITHIN A CALL LEAVES: the folder as it was before the call, or as after it
 abbrev pub Leaves : Call → Folder → Folder → Type 0
 Leaves call x y = IsSame x y ⊎ IsAfter call x y
-
-abbrev pub IsCalled : Folder → Folder → Call → Type 0
-IsCalled x y call = IsAfter call x y

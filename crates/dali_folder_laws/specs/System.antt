@@ -1,5 +1,7 @@
 use Rattle.std.specs.Prelude.{◌≡◌, ◌≢◌, ◌⊎◌, ℕ, zero, suc, Bool, true, false, if◌then◌else◌, List}
 use Rattle.std.specs.Prelude.{[], ◌∷◌, None, IsSome}
+use Rattle.std.specs.declared.alloc.Global.{Global}
+use Rattle.std.specs.declared.string.String.{String}
 use Rattle.dali_folder.specs.Events.{Event, Likens, SyncsFolder, AreBegun, writing, removing}
 use Rattle.dali_folder.specs.Events.{renaming}
 use Rattle.dali_folder.specs.Folder.{Names, Folders, Happen, restarted, folder_of}
@@ -9,6 +11,7 @@ use Rattle.dali_commission_stores.specs.Calls.{Call, Wrote, Renamed, Likened, Re
 use Rattle.dali_commission_stores.specs.Calls.{Opened, Closed, Look}
 use Rattle.dali_commission_stores.specs.Settled.{IsSettled, IsExchanged}
 use Rattle.dali_commission_stores.specs.Settling.{new_at, journal_at, kept_at, IsNamed}
+use Rattle.dali_commission_cleared.specs.Clearing.{AreFilled, AreRenamed}
 use Rattle.dali_folder_laws.specs.Folder.{Folder, IsTrueOf}
 
 -- A FOLDER OF THE SYSTEM, but for names that have something only while a call is made: a part of a
@@ -100,3 +103,14 @@ MachinesSettle part log swap (suc more) x y =
 
 abbrev pub MachineExchanges : (part log : List ℕ → List ℕ) → Swap → Folders → Machine → Type 0
 MachineExchanges part log swap x y = IsExchanged (Asks part log) Looks swap (booted x) y
+
+-- a machine puts files aside, each of which is kept in its folder
+abbrev pub MachinePutsAside : (part log : List ℕ → List ℕ) → List (String Global)
+    → List (String Global) → ℕ → Folders → Machine → Type 0
+MachinePutsAside part log records names number x y =
+    AreFilled Looks (booted x) [] records names
+    × AreRenamed (Asks part log) Looks records names number (booted x) y
+
+abbrev pub AllFit : (List ℕ → Bool) → (part log : List ℕ → List ℕ) → List Call → Type 0
+AllFit passing part log [] = Unit {0}
+AllFit passing part log (call ∷ more) = AreFit passing part log call × AllFit passing part log more

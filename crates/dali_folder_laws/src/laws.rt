@@ -2,38 +2,23 @@
 
 ghost use Rattle.std.specs.declared.alloc.Global.{Global};
 ghost use Rattle.std.specs.declared.string.String.{String};
-ghost use Rattle.std.specs.Prelude.{◌≡◌, ◌≤◌, ◌<◌, ◌⊎◌, ℕ, ◌+◌, ◌*◌, Bool, true, List, Some, None, length};
-ghost use Rattle.dali_replacement.specs.declared.swap.Step.{Step};
-ghost use Rattle.dali_replacement.specs.declared.swap.Step.TheVariants.{Forget};
+ghost use Rattle.std.specs.Prelude.{◌≡◌, ◌≤◌, ◌<◌, ◌⊎◌, ℕ, Bool, true, List, Some, None, length};
 ghost use Rattle.dali_replacement.specs.declared.swapping.Swap.{Swap};
-ghost use Rattle.dali_replacement.specs.Swap.{step_after};
 ghost use Rattle.dali_replacement.specs.Swapping.{names_of};
-ghost use Rattle.dali_commission_stores.specs.Seen.{IsMoment};
-ghost use Rattle.dali_commission_stores.specs.Settling.{IsDone, count_of, new_at};
+ghost use Rattle.dali_commission_stores.specs.Calls.{Call, AreMade};
+ghost use Rattle.dali_commission_stores.specs.Settling.{count_of, new_at};
 ghost use Rattle.dali_commission_stores.specs.Keeping.{IsAside};
 ghost use Rattle.dali_commission_stores.specs.Lent.{lent_calls};
+ghost use Rattle.dali_commission_cleared.specs.Clearing.{asides};
 ghost use Rattle.dali_folder.specs.Events.{Event, AreBegun};
 ghost use Rattle.dali_folder.specs.Folder.{Folders, IsSettled, Happen};
-ghost use Rattle.dali_folder_laws.specs.Asides.{PutsAside, PutAsideOften, AreAway, HasStill, HasBehind};
-ghost use Rattle.dali_folder_laws.specs.Asides.{LiesOrAside};
-ghost use Rattle.dali_folder_laws.specs.Folder.{Folder, IsAfter, IsCalled, IsUsed, Leaves};
+ghost use Rattle.dali_folder_laws.specs.Asides.{PutAsideOften, AreAway, HasStill, HasBehind, LiesOrAside};
+ghost use Rattle.dali_folder_laws.specs.Folder.{Folder, IsAfter, IsUsed, Leaves};
 ghost use Rattle.dali_folder_laws.specs.Moments.{Itself, Journal, IsPart, Differ, MayBegin, Files, IsBefore, IsBehind};
-ghost use Rattle.dali_folder_laws.specs.Moments.{IsAt, IsAtSome, AllOld, AllNew, AllAnnounced};
-ghost use Rattle.dali_folder_laws.specs.Stops.{Program, starting, Makes, Sees, Exchanges, Settles, SettleOften};
-ghost use Rattle.dali_folder_laws.specs.Stops.{ended_as};
-ghost use Rattle.dali_folder_laws.specs.System.{but_for, asked_by, AreFit, IsThere, Machine, Fits, MachineExchanges};
-ghost use Rattle.dali_folder_laws.specs.System.{MachineSettles, MachinesSettle};
-ghost use Rattle.dali_commission_stores.specs.Calls.{Call, AreMade};
-
-/// AN EXCHANGE OVER A CRASH. An exchange is begun and stopped at any of its calls; so are any programs that settle it,
-/// one after the other. Then one settles it and is not stopped: each new file has taken the place of its old one, which
-/// is kept; or all is as before the exchange. No journal lies there any more.
-pub fn an_exchange_ends_over_every_stop()
-    ensures { (swap : Swap) (files : Files) (often : ℕ) (x z : Folder) (y w : Program) (done : Bool)
-        → MayBegin swap → IsBefore swap files x
-        → Exchanges swap x y → SettleOften swap often y.folder z → Settles swap z w done → w.runs ≡ true
-        → ended_as swap files done w.folder }
-{}
+ghost use Rattle.dali_folder_laws.specs.Moments.{IsAtSome, AllOld, AllNew, AllAnnounced};
+ghost use Rattle.dali_folder_laws.specs.Stops.{Program, starting, Makes, Sees, Exchanges, SettleOften, ended_as};
+ghost use Rattle.dali_folder_laws.specs.System.{but_for, asked_by, AreFit, AllFit, IsThere, Machine, Fits};
+ghost use Rattle.dali_folder_laws.specs.System.{MachineExchanges, MachineSettles, MachinesSettle, MachinePutsAside};
 
 /// Whenever it is stopped, the folder is at a moment of the exchange. One that is not stopped ends it (`ends`).
 pub fn a_stop_leaves_an_exchange_at_a_moment()
@@ -59,28 +44,6 @@ pub fn no_file_is_missing_and_none_has_two_truths()
 pub fn an_exchange_of_names_that_differ_may_begin()
     ensures { (swap : Swap) (files : Files) (x : Folder) → length (names_of swap) ≤ 64 → Differ swap
         → IsBefore swap files x → MayBegin swap }
-{}
-
-/// The calls of a step lead a folder to the next moment, or back; and what is looked at tells at which one it is.
-pub fn a_folder_goes_from_moment_to_moment()
-    ensures on { (swap : Swap) (files : Files) (m : ℕ) (s : Step) (x y : Folder) → MayBegin swap → IsAt swap files m x
-        → step_after (count_of swap) m ≡ Some s → IsDone IsCalled swap s x y → IsAt swap files (m + 1) y }
-    ensures back { (swap : Swap) (files : Files) (m : ℕ) (x y : Folder) → MayBegin swap → m < count_of swap
-        → IsAt swap files (m + 1) x → IsDone IsCalled swap (Forget m) x y → IsAt swap files m y }
-    ensures found { (swap : Swap) (files : Files) (m l : ℕ) (x : Folder) → MayBegin swap → m ≤ 4 * count_of swap
-        → IsAt swap files m x → IsMoment Sees swap (starting x) l → l ≡ m }
-{}
-
-/// FILES THAT ARE PUT ASIDE OVER A CRASH. Whenever it is stopped, each name has what it had; or it has nothing, and
-/// what it had is kept. If it is not stopped, each file that was there and not empty is put aside (`away`): so a later
-/// call puts aside what an earlier one has left, and after any number of them no file is lost (`often`).
-pub fn what_is_put_aside_is_not_lost()
-    ensures kept { (records names : List (String Global)) (number : ℕ) (x : Folder) (y : Program) (at had : List ℕ)
-        → PutsAside records names number x y → x at ≡ Some had → HasStill number x y.folder at had }
-    ensures away { (records names : List (String Global)) (number : ℕ) (x : Folder) (y : Program)
-        → PutsAside records names number x y → y.runs ≡ true → AreAway names y.folder }
-    ensures often { (records : List (String Global)) (often : ℕ) (x y : Folder) (at had : List ℕ)
-        → PutAsideOften records often x y → x at ≡ Some had → HasBehind y at had }
 {}
 
 /// A NEW FILE OVER A CRASH, that of a first run (`lent`), or one that is put aside. Whenever it is stopped, each other
@@ -118,4 +81,23 @@ pub fn an_exchange_ends_over_every_crash()
         → IsSettled passing x → IsBefore swap files (but_for passing x.holds) → MachineExchanges part log swap x y
         → MachinesSettle part log swap often y.folders z → MachineSettles part log swap z w done → w.runs ≡ true
         → IsSettled passing w.folders × ended_as swap files done (but_for passing w.folders.holds) }
+{}
+
+/// FILES THAT ARE PUT ASIDE OVER A KILL OR A CRASH. A machine may stop within what any call asks of the system: each
+/// name has what it had, as programs see it then and on the disk; or it has nothing, and what it had is kept. If it
+/// does not stop, each file that was there and not empty is put aside, on the disk (`away`). No file is lost after any
+/// number of programs that were stopped (`often`).
+pub fn what_is_put_aside_is_not_lost()
+    ensures kept { (passing : List ℕ → Bool) (part log : List ℕ → List ℕ) (records names : List (String Global))
+        (number : ℕ) (x : Folders) (y : Machine) (at had : List ℕ) → AllFit passing part log (asides names number)
+        → IsSettled passing x → MachinePutsAside part log records names number x y
+        → but_for passing x.holds at ≡ Some had
+        → HasStill number (but_for passing x.holds) (but_for passing y.folders.holds) at had
+        × HasStill number (but_for passing x.holds) (but_for passing y.folders.disk) at had }
+    ensures away { (passing : List ℕ → Bool) (part log : List ℕ → List ℕ) (records names : List (String Global))
+        (number : ℕ) (x : Folders) (y : Machine) → AllFit passing part log (asides names number)
+        → IsSettled passing x → MachinePutsAside part log records names number x y → y.runs ≡ true
+        → IsSettled passing y.folders × AreAway names (but_for passing y.folders.holds) }
+    ensures often { (records : List (String Global)) (often : ℕ) (x y : Folder) (at had : List ℕ)
+        → PutAsideOften records often x y → x at ≡ Some had → HasBehind y at had }
 {}
