@@ -24,6 +24,9 @@ ghost use Rattle.dali_bus_laws.specs.Pins.{seen_at, over_at};
 ghost use Rattle.dali_bus_laws.specs.Breaks.{BreaksOff};
 ghost use Rattle.dali_bus_laws.specs.Pairs.{first_after_all};
 ghost use Rattle.dali_bus_laws.specs.Transactions.{alone_after_all};
+ghost use Rattle.dali_bus_laws.specs.Words.{first_word, IsCalled, IsSentWhole, IsBrokenOff};
+ghost use Rattle.dali_frame.specs.declared.frames.Answer.{Answer};
+ghost use Rattle.dali_port.specs.declared.orders.Word.TheVariants.{Heard, Destroyed};
 
 /// A frame begins at rest: whatever the port did before, if its timer begins one, the bus is high, and no edge came for
 /// the settling time of its priority.
@@ -39,6 +42,18 @@ pub fn a_whole_frame_was_seen()
         → p.phase ≡ phase.Sending (begun_at order p.called) → p.is_low ≡ false
         → IsWhole p calls → InOrder p.called (calls ++ more)
         → AreEdgesOf false p.called (sent_levels (forward_bits order.frame)) (edges_in (calls ++ more)) }
+{}
+
+/// The word that a port tells of a frame says what became of it. If it tells silence, a byte or damaged, it sent the
+/// frame whole (`heard`). If it tells destroyed, it broke it off, or sent it whole and heard something though it had
+/// asked nothing (`destroyed`).
+pub fn a_word_says_what_became_of_the_frame()
+    ensures heard { (p : Port) (order : Order) (calls : List Call) (heard : Answer)
+        → p.phase ≡ phase.Sending (begun_at order p.called) → IsCalled table p calls
+        → first_word p calls ≡ Some (Heard heard) → IsSentWhole p calls }
+    ensures destroyed { (p : Port) (order : Order) (calls : List Call)
+        → p.phase ≡ phase.Sending (begun_at order p.called) → IsCalled table p calls
+        → first_word p calls ≡ Some Destroyed → IsSentWhole p calls ⊎ IsBrokenOff table p calls }
 {}
 
 /// What a port sent whole, each receiver on the bus that was at rest reads as exactly that frame.

@@ -1,0 +1,5 @@
+use Rattle.dali_pin_laws.proofs.Runs.{is_history, keeps_at_pins}
+use Rattle.dali_pin_laws.proofs.laws.the_promise_holds_from_the_pins.Goals as goal
+
+pub returns : goal.returns
+returns c = record { history = is_history; promise = keeps_at_pins }
