@@ -174,9 +174,9 @@ def received(client: socket.socket, count: int) -> bytes:
     return found
 
 
-def record(file: str) -> None:
-    """Writes a commissioning of two gear, as a stand-in is spoken to."""
-    wrote = ["# A commissioning of two gear by the controller of adapters/tests/testing.py, over adapters/tests/stand_in."]
+def recorded() -> list[str]:
+    """A commissioning of two gear, as a stand-in is spoken to."""
+    wrote = []
     with tempfile.TemporaryDirectory() as folder, Driver("tests/stand_in", 0, f"{folder}/site", "--gear", 2, "--seed", 1) as server:
         with socket.create_connection(("127.0.0.1", int(server.line()))) as client:
 
@@ -190,4 +190,4 @@ def record(file: str) -> None:
                 return "silence" if reply[1] == 0 else "damaged"
 
             Controller(put).run()
-    pathlib.Path(file).write_text("".join(f"{it}\n" for it in wrote))
+    return wrote

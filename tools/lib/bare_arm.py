@@ -5,9 +5,6 @@ import re
 
 from lib import targets
 
-# For a function in C: it keeps the frame of its caller in r7.
-KEEP_FRAMES = ("-fno-omit-frame-pointer", "-mno-omit-leaf-frame-pointer")
-
 
 def declared() -> tuple[list[str], list[str]]:
     """The structs of the header, and its calls that work on one."""
@@ -16,12 +13,10 @@ def declared() -> tuple[list[str], list[str]]:
     return re.findall(r"^struct (\w+) \{", text, re.M), calls
 
 
-def program(
-    target: targets.Target, folder: pathlib.Path, linked: pathlib.Path, settings: dict[str, int | str], more: tuple[str, ...] = ()
-) -> pathlib.Path:
+def program(target: targets.Target, folder: pathlib.Path, linked: pathlib.Path, settings: dict[str, int | str]) -> pathlib.Path:
     """The program that measures, with the library."""
     (folder / "structs.h").write_text("".join(f"STRUCT({it})\n" for it in declared()[0]))
-    words = [*more, *(f"-D{name}={value}" for name, value in settings.items())]
+    words = [f"-D{name}={value}" for name, value in settings.items()]
     sources = [targets.BARE / "program.c", targets.EXAMPLE / "gear.c"]
     return targets.program(target, folder, sources, linked, words)
 

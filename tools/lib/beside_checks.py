@@ -8,7 +8,7 @@ import shlex
 import signal
 import subprocess
 
-from lib.drive_stubs import Checks
+from lib.harness import Checks
 from lib.page_stubs import DRIVER, GEAR, PROGRAM, WAIT, Page, Room
 from yolgibat import apart, marks
 

@@ -16,7 +16,7 @@ import time
 import typing
 
 from lib import ROOT, asking, browser, commission_faults, ssh_server
-from lib.drive_stubs import Checks
+from lib.harness import Checks
 from yolgibat import building, marks, places
 
 STUB = ROOT / "tools/lib/commission_stub.py"
@@ -237,8 +237,7 @@ def try_many(chosen: argparse.Namespace, program: str) -> int:
         sizes = ", ".join(f"{kind} {size / 1000:.0f} MB" for kind, size in sorted(room.most.items()))
         own = sum(size for kind, size in room.most.items() if kind != DRIVERS) / 1000
         print(f"{open_ends} of them left an address alone; memory at most {own:.0f} MB without the drivers: {sizes}")
-    print(f"{checks.right} right, {checks.wrong} wrong")
-    return 1 if checks.wrong else 0
+    return checks.end()
 
 
 def try_delays(chosen: argparse.Namespace, program: str) -> int:
@@ -257,8 +256,7 @@ def try_delays(chosen: argparse.Namespace, program: str) -> int:
             checks.same(job.status(), 0, f"{job.entry.name} ended: {job.said}")
             print(f"{job.entry.name} ms, {chosen.gear} gear: {report.get('frames')} frames, {command.ended - command.begun:.0f} s", flush=True)
         check_tables(checks, room)
-    print(f"{checks.right} right, {checks.wrong} wrong")
-    return 1 if checks.wrong else 0
+    return checks.end()
 
 
 def try_ssh(chosen: argparse.Namespace, program: str) -> int:
@@ -288,8 +286,7 @@ def try_ssh(chosen: argparse.Namespace, program: str) -> int:
         checks.same(room.object("run")[1], dict.fromkeys(names, 0), "the next run goes on, and ends well")
         print(f"{len(names)} buses of 5 gear over ssh: {time.monotonic() - begun:.0f} s", flush=True)
         check_tables(checks, room)
-    print(f"{checks.right} right, {checks.wrong} wrong")
-    return 1 if checks.wrong else 0
+    return checks.end()
 
 
 def try_faults(chosen: argparse.Namespace, program: str) -> int:
@@ -322,8 +319,7 @@ def try_faults(chosen: argparse.Namespace, program: str) -> int:
                 subprocess.run(["mount", "-o", "remount,size=4m", room.folder / "disk"], check=True)
             checks.same(room.object("run")[1], dict.fromkeys(names, 0), "all end well when all is mended")
             check_tables(checks, room)
-    print(f"{checks.right} right, {checks.wrong} wrong")
-    return 1 if checks.wrong else 0
+    return checks.end()
 
 
 def try_page(program: str, is_taken: bool) -> int:
@@ -347,8 +343,7 @@ def try_page(program: str, is_taken: bool) -> int:
                 tab.value(SEARCH % SEARCHED)
                 tab.shot(str(ROOT / TAKEN))
             checks.same(opened.said, [], "the page says nothing in its console")
-    print(f"{checks.right} right, {checks.wrong} wrong")
-    return 1 if checks.wrong else 0
+    return checks.end()
 
 
 def search_in(checks: Checks, tab: browser.Tab, address: str, width: int, buses: int) -> None:

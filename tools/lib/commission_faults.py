@@ -15,7 +15,7 @@ import sys
 import time
 import typing
 
-from lib.commission_site import DONE, DRIVER, ENROL, GAVE_UP, NOBODY, RESERVE, STORE, Kept, Place, Ran, Word
+from lib.commission_site import DONE, DRIVER, ENROL, GAVE_UP, NOBODY, RESERVE, STORE, Kept, Place, Ran, Word, kill_at
 
 ALL = (0, 63)
 # Six gear: a run that finds them all in its table has at least so many lines.
@@ -320,7 +320,7 @@ def full_disk(place: Place, chance: random.Random) -> None:
             room = 4096 * pages
             place.records = folder / f"{room}.db"
             place.gear_file.unlink(missing_ok=True)
-            kill = {"byte": 0xAB, "count": chance.randint(1, 3), "moment": "before", "delay": 0, "is_cut": True}
+            kill = kill_at(chance.randint(1, 3), 0xAB, "before", is_cut=True)
             if chance.random() < 0.5:
                 place.run(run_words(place), place.simulated("--gear", MANY), kill=kill)
             rows = place.rows()
@@ -357,8 +357,7 @@ def opening(place: Place, chance: random.Random) -> None:
     """The program is killed within its first milliseconds, when it opens its records: new ones, or some with a log."""
     for turn in range(60):
         if turn % 3 == 0:
-            kill = {"byte": 0xAB, "count": 1, "moment": "before", "delay": 0, "is_cut": True}
-            place.run(run_words(place), place.simulated("--gear", 30), kill=kill)
+            place.run(run_words(place), place.simulated("--gear", 30), kill=kill_at(1, 0xAB, "before", is_cut=True))
         rows = place.rows()
         program, between = place.begin(run_words(place), place.simulated("--gear", 30))
         time.sleep(chance.uniform(0, 0.01))

@@ -16,12 +16,12 @@ import sqlite3
 import subprocess
 import sys
 import tempfile
-import threading
 import time
 import types
 import typing
 
 from lib import ROOT, proving
+from lib.harness import Checks
 from lib.record_kinds import ENROL, KINDS, RELEASE, RESERVE
 
 # The device for which adapters/tests/spi-bus stands.
@@ -49,31 +49,6 @@ Kept = dict[int, list[tuple[int, int]]]
 
 class Wrong(Exception):
     """What is wrong, where nothing more can be said of the site."""
-
-
-class Checks:
-    """What was checked, each by its name: how often it was right, and what was wrong. Threads share it."""
-
-    def __init__(self) -> None:
-        self.lock, self.right, self.wrong = threading.Lock(), collections.Counter(), collections.Counter()
-        self.seen = collections.Counter()
-
-    def count(self, name: str, times: int = 1) -> None:
-        with self.lock:
-            self.seen[name] += times
-
-    def check(self, name: str, is_so: bool) -> None:
-        with self.lock:
-            (self.right if is_so else self.wrong)[name] += 1
-
-    def report(self) -> int:
-        for name in sorted({*self.right, *self.wrong}):
-            word = "wrong" if self.wrong[name] else "right"
-            times = f"{self.wrong[name]} of {self.right[name] + self.wrong[name]}" if self.wrong[name] else self.right[name]
-            print(f"{word}: {name}, {times} times")
-        wrong = len(self.wrong)
-        print(f"{len({*self.right} - {*self.wrong})} right, {wrong} wrong")
-        return wrong
 
 
 class Ran(typing.NamedTuple):
@@ -338,6 +313,17 @@ def replayed(rows: list[Row], block: tuple[int, int]) -> tuple[Kept, str | None]
 # What the checks over many sites have in common.
 
 
+def kill_at(count: int, byte: int | None = None, moment: str = "after", is_cut: bool = False, delay: float = 0) -> dict[str, typing.Any]:
+    """A kill of the program at its count-th frame with this address byte, or with any (commission_between says when)."""
+    return {"byte": byte, "count": count, "moment": moment, "is_cut": is_cut, "delay": delay}
+
+
+def drawn_kill(chance: random.Random, most: int, few: int, address_bytes: collections.abc.Sequence[int | None]) -> dict[str, typing.Any]:
+    """A kill at random: at one of so many frames, or of so few with one of these address bytes."""
+    moment, byte = chance.choice(["before", "unheard", "after"]), chance.choice(address_bytes)
+    return kill_at(chance.randint(1, most if byte is None else few), byte, moment, delay=10 ** chance.uniform(-5, -2))
+
+
 def options_of(text: str, parts: list[str], sites: int = 20) -> argparse.ArgumentParser:
     """The words of a check that has these parts, and tries so many sites if nothing is said."""
     options = argparse.ArgumentParser(description=text)
@@ -358,9 +344,21 @@ def chosen_of(options: argparse.ArgumentParser, parts: list[str]) -> argparse.Na
     return chosen
 
 
+def tests_of(check: str, chosen: argparse.Namespace, by_seed: dict[str, tuple[typing.Any, int]], once: dict[str, tuple[typing.Any, ...]]) -> list[tuple[typing.Any, ...]]:
+    """The tests of the parts that are chosen, each with its title, its function and its seed: of some parts so many from the seed on, of others each once."""
+    found = []
+    for part, (function, count) in by_seed.items():
+        for seed in range(chosen.seed, chosen.seed + (count if part in chosen.part else 0)):
+            found.append((f"tools/check/{check} --part {part} --sites 1 --seed {seed}", function, seed))
+    for part, functions in once.items():
+        for function in functions if part in chosen.part else ():
+            found.append((f"tools/check/{check} --part {part} --seed {chosen.seed}: {function.__name__}", function, chosen.seed))
+    return found
+
+
 def try_all(chosen: argparse.Namespace, tests: list[tuple[typing.Any, ...]], troubles: collections.abc.Sequence[str] = ()) -> typing.NoReturn:
     """Makes these tests side by side, each with its title, its function, and what that takes beside its place. Says what was right, and ends."""
-    checks, begun = Checks(), time.monotonic()
+    checks, begun = Checks("names"), time.monotonic()
 
     def run(title: str, function: collections.abc.Callable[..., None], *more: object) -> None:
         with Place(checks, title, chosen.program, troubles) as place:
@@ -370,6 +368,4 @@ def try_all(chosen: argparse.Namespace, tests: list[tuple[typing.Any, ...]], tro
         for done in [pool.submit(run, *it) for it in tests]:
             done.result()
     print(f"{len(tests)} tests from seed {chosen.seed}, {round(time.monotonic() - begun)} seconds, {chosen.jobs} side by side")
-    for name in sorted(checks.seen):
-        print(f"{checks.seen[name]} {name}")
-    raise SystemExit(1 if checks.report() else 0)
+    raise SystemExit(checks.end())

@@ -9,7 +9,6 @@ import shutil
 import signal
 import subprocess
 import sys
-import threading
 import typing
 
 from lib import ROOT
@@ -139,22 +138,6 @@ read -r line
 echo "line: $line" >&2
 echo lapsed
 """
-
-
-class Checks:
-    """How much was right, and what was wrong. Threads share it."""
-
-    def __init__(self) -> None:
-        self.right, self.wrong, self.lock = 0, 0, threading.Lock()
-
-    def say(self, holds: bool, what: str) -> None:
-        with self.lock:
-            self.right, self.wrong = self.right + bool(holds), self.wrong + (not holds)
-            if not holds:
-                print(f"wrong: {what}", flush=True)
-
-    def same(self, found: object, wanted: object, what: object) -> None:
-        self.say(found == wanted, f"{what}: {found!r:.2000}, and not {wanted!r:.2000}")
 
 
 def sh(text: str) -> list[str]:

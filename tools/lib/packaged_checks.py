@@ -16,7 +16,7 @@ import typing
 from lib import ROOT, asking, packing
 
 if typing.TYPE_CHECKING:
-    from lib.drive_stubs import Checks
+    from lib.harness import Checks
 
 PATH = "/usr/sbin:/usr/bin:/sbin:/bin"
 # For how many seconds a shell, or a command of a package, is waited for.

@@ -7,7 +7,7 @@ import pathlib
 import subprocess
 
 from lib import ROOT
-from lib.drive_stubs import Checks
+from lib.harness import Checks
 from lib.page_stubs import GEAR, Page, Room
 from yolgibat import places, serials
 

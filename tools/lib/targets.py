@@ -219,8 +219,8 @@ def laid_out(text: str, line: str) -> str:
     return text.replace(ours, line)
 
 
-def retargeted(target: Target, module: pathlib.Path, folder: pathlib.Path, marks: collections.abc.Sequence[str]) -> str:
-    """LLVM's text of the library for another processor, each of its functions with these marks."""
+def retargeted(target: Target, module: pathlib.Path, folder: pathlib.Path) -> str:
+    """LLVM's text of the library for another processor."""
     empty = folder / "empty.c"
     empty.write_text("")
     lines = as_text([f"--target={target.triple}", *target.words, empty], folder / "empty.ll")
@@ -233,10 +233,7 @@ def retargeted(target: Target, module: pathlib.Path, folder: pathlib.Path, marks
     # A C compiler takes it that the byte that is returned fills its register.
     text = re.sub(r"^define noundef (?=i8 @)", "define noundef zeroext ", text, flags=re.M)
     # What the sources mark for a site's loop makes these libraries larger: there clang decides by itself.
-    unmarked = r" (?:inlinehint|alwaysinline)\b" if "noinline" in marks else r" alwaysinline\b"
-    text = re.sub(rf"^(attributes #.*){unmarked}", r"\1", text, flags=re.M)
-    of_functions = "|".join(set(re.findall(r"^define .*\) #(\d+)", text, re.M)))
-    return re.sub(rf"^(attributes #(?:{of_functions}) = \{{)", rf"\1 {' '.join(marks)}", text, flags=re.M)
+    return re.sub(r"^(attributes #.*) alwaysinline\b", r"\1", text, flags=re.M)
 
 
 def layout_of(target: Target, folder: pathlib.Path) -> str:
@@ -248,7 +245,7 @@ def layout_of(target: Target, folder: pathlib.Path) -> str:
 
 def portable(width: str, module: pathlib.Path, folder: pathlib.Path) -> str:
     """LLVM's text of the library for each little-endian processor whose pointers have so many bits: it names none, nor a file."""
-    text = retargeted(TARGETS[PORTABLE[width]], module, folder, [])
+    text = retargeted(TARGETS[PORTABLE[width]], module, folder)
     return re.sub(r"^(?:target |; ModuleID|source_filename).*\n", "", text, flags=re.M)
 
 
@@ -273,12 +270,10 @@ def compiled(
     return made
 
 
-def library(
-    target: Target, module: pathlib.Path, folder: pathlib.Path, level: str = "-Os", marks: collections.abc.Sequence[str] = ()
-) -> pathlib.Path:
+def library(target: Target, module: pathlib.Path, folder: pathlib.Path, level: str = "-Os") -> pathlib.Path:
     """The library as an object for another processor."""
     source = folder / "library.ll"
-    source.write_text(retargeted(target, module, folder, marks))
+    source.write_text(retargeted(target, module, folder))
     return compiled(target, [level, "-x", "ir"], source, folder / "library.o")
 
 

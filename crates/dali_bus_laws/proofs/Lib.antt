@@ -1,9 +1,10 @@
 mod Seen
-mod Spans
+pub mod Spans
 mod Taken
 mod Begun
-mod Two
-mod Broken
+pub mod Two
+pub mod Broken
 mod Without
 mod Pairs
 mod Transactions
+pub mod Words

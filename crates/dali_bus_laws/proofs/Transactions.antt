@@ -1,11 +1,14 @@
 use Rattle.std.proofs.Common.{◌≡◌, ℕ, Bool, true, false, ◌&&◌, ◌||◌, not, List, [], ◌∷◌, Option, Some, None, refl, sym, ◌∙◌, ap, subst, if◌then◌else◌, is_none}
-use Rattle.std.proofs.Common.{◌⊎◌, inl, inr}
+use Rattle.std.proofs.Common.{◌⊎◌, inl, inr, ◌+◌, ◌-◌, ◌^◌, ◌≤◌, min, nat_lt, arith}
+use Rattle.std.proofs.lemmas.Bool.Decides.{nat_tests}
 use Rattle.dali_frame.specs.declared.frames.Answer.{Answer}
-use Rattle.dali_wire.specs.declared.receiver.{Frame.Frame, Told.Told}
+use Rattle.dali_frame.specs.declared.frames.Answer.TheVariants.{Damaged}
+use Rattle.dali_wire.specs.declared.receiver.{Frame.Frame, Told.Told, Reading.Reading, Receiver.Receiver}
+use Rattle.dali_wire.specs.declared.receiver.Reading.TheVariants.{Idle}
 use Rattle.dali_wire.specs.declared.receiver.Frame.TheVariants as read
 use Rattle.dali_wire.specs.declared.window.Window.{Window}
-use Rattle.dali_wire.specs.Reception.{told_of, receiver_at}
-use Rattle.dali_wire.specs.Windows.{told_after, window_at}
+use Rattle.dali_wire.specs.Reception.{told_of, receiver_at, reading_at}
+use Rattle.dali_wire.specs.Windows.{told_after, window_at, is_idle, passed}
 use Rattle.dali_port.specs.Courses.{Course}
 use Rattle.dali_port.specs.Courses as course
 use Rattle.dali_port.specs.declared.orders.{Order.Order, Refusal.Refusal}
@@ -19,6 +22,7 @@ use Rattle.dali_port.specs.Calls.{is_backwards, timed_in, timed, timer_after, be
 use Rattle.dali_port.specs.Laws.{is_sending}
 use Rattle.dali_port.specs.Runs.{Call, Sends, Times, Turns, Loses, after, after_all}
 use Rattle.dali_port.proofs.Begins.{timer_begins}
+use Rattle.dali_bus_laws.specs.Breaks.{is_breaking}
 use Rattle.dali_bus_laws.specs.Pairs.{begins}
 use Rattle.dali_bus_laws.specs.Transactions.{is_own_in, is_own, alone_after, alone_after_all}
 
@@ -327,3 +331,64 @@ broken_known p calls now s over free quiet sends later =
     let u = until_knows q.phase q now (alone_after_all p false calls) refl k in
     let begins = timer_begins q now s quiet sends in
     u.0 (u.1 (ap (λ x. later_waits x) begins.0 ∙ later))
+
+-- AN EDGE AFTER REST is not its own: no backward frame may begin any more
+told_phase : (p : Port) (o : Option Told) → is_own_in (noted_told p o).phase ≡ is_own_in p.phase
+told_phase p o = ap (λ ph. is_own_in ph) (told_keeps p o).1
+
+rested_phase : (off : Bool) (p : Port) (o : Option Told) (r : Receiver) → is_own_in p.phase ≡ false
+    → is_own_in (if off then record p { is_powerless = true; is_over = true; phase = Free } else noted_told (record p { receiver = r }) o).phase ≡ false
+rested_phase true p o r not_own = refl
+rested_phase false p o r not_own = told_phase (record p { receiver = r }) o ∙ not_own
+
+window_over : (idle passed : Bool) (p : Port) (asks : Bool) (w : Window) (heard : Answer) (later : Option Answer) → idle ≡ true → passed ≡ true
+    → is_own_in (listened_by p asks w (if idle && passed then Some heard else later)).phase ≡ false
+window_over true true p asks w heard later a b = refl
+window_over true false p asks w heard later a b = absurd (cc)
+window_over false passed p asks w heard later a b = absurd (cc)
+
+long_since : (edge now : ℕ) → edge + 12401 ≤ now → 12401 ≤ min (now - edge) (2 ^ 32 - 1)
+long_since edge now h = omega arith
+
+past : (elapsed since : ℕ) → 12401 ≤ since → nat_lt 12400 (min (elapsed + since) (2 ^ 32 - 1)) ≡ true
+past elapsed since h = grind (arith, nat_tests)
+
+not_soon : (since : ℕ) → 12401 ≤ since → nat_lt since 2400 ≡ false
+not_soon since h = grind (arith, nat_tests)
+
+at_rest : (r : Reading) (low : Bool) (since : ℕ) → low ≡ false → 12401 ≤ since → is_idle (reading_at r low since) ≡ true
+at_rest r true since high h = absurd (cc)
+at_rest r false since high h = ap (λ b. is_idle (if b then r else Idle)) (not_soon since h)
+
+until_other : (ph : Phase) (p : Port) (now : ℕ) → is_sending ph ≡ false → is_breaking ph ≡ false → p.phase ≡ ph → p.receiver.is_low ≡ false
+    → p.edge + 12401 ≤ now → is_own_in (until_in ph (record p { called = now }) now).phase ≡ false
+until_other Free p now a b is high h =
+    rested_phase (has_no_power (record p { called = now }) now) (record p { called = now }) (told_of p.receiver (since_edge p now))
+    (receiver_at p.receiver (since_edge p now)) (ap (λ ph. is_own_in ph) is)
+until_other (Waiting order) p now a b is high h =
+    rested_phase (has_no_power (record p { called = now }) now) (record p { called = now }) (told_of p.receiver (since_edge p now))
+    (receiver_at p.receiver (since_edge p now)) (ap (λ ph. is_own_in ph) is)
+until_other (Sending s) p now a b is high h = absurd (cc)
+until_other (Breaking since) p now a b is high h = absurd (cc)
+until_other (Listening l) p now a b is high h =
+    window_over (is_idle (reading_at p.receiver.reading p.receiver.is_low (since_edge p now)))
+    (nat_lt 12400 (min (l.elapsed + since_edge p now) (2 ^ 32 - 1))) (record p { called = now }) l.asks
+    (window_at (window_of p l) (since_edge p now)) (window_at (window_of p l) (since_edge p now)).heard
+    (if nat_lt 50000 (passed (window_of p l) (since_edge p now)) then Some Damaged else None)
+    (at_rest p.receiver.reading p.receiver.is_low (since_edge p now) high (long_since p.edge now h))
+    (past l.elapsed (since_edge p now) (long_since p.edge now h))
+
+not_back : (called now : ℕ) → called ≤ now → nat_lt now called ≡ false
+not_back called now h = grind (arith, nat_tests)
+
+noticed_by : (back other own : Bool) → back ≡ false → own ≡ false → (back || (other && own)) ≡ false
+noticed_by false true false a b = refl
+noticed_by false false own a b = refl
+noticed_by true other own a b = absurd (cc)
+noticed_by false true true a b = absurd (cc)
+
+pub noticed : (p : Port) (low : Bool) (now : ℕ) → is_sending p.phase ≡ false → is_breaking p.phase ≡ false → p.receiver.is_low ≡ false → p.called ≤ now
+    → p.edge + 12401 ≤ now → is_own p (Turns low now) ≡ false
+noticed p low now a b high order h =
+    noticed_by (is_backwards p now) (not (same_level p.is_low low)) (is_own_in (until p now).phase) (not_back p.called now order)
+    (until_other p.phase p now a b refl high h)

@@ -4,3 +4,4 @@ pub mod Pins
 pub mod Breaks
 pub mod Pairs
 pub mod Transactions
+pub mod Words

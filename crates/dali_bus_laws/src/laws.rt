@@ -1,7 +1,7 @@
 //! What several parties on one bus make of a frame: laws over the definitions of ports and receivers. Programs don't
 //! call them.
 
-ghost use Rattle.std.specs.Prelude.{◌≡◌, ℕ, ◌+◌, ◌≤◌, ◌⊎◌, true, false, Some, List, [], ◌++◌, length};
+ghost use Rattle.std.specs.Prelude.{◌≡◌, ℕ, ◌+◌, ◌≤◌, ◌⊎◌, Bool, true, false, Some, List, [], ◌++◌, length};
 ghost use Rattle.dali_frame.specs.declared.frames.Forward.{Forward as Sent};
 ghost use Rattle.dali_wire.specs.Levels.{sent_levels, forward_bits};
 ghost use Rattle.dali_wire.specs.declared.receiver.Reading.TheVariants.{Idle};
@@ -11,7 +11,7 @@ ghost use Rattle.dali_port.specs.declared.orders.Order.{Order};
 ghost use Rattle.dali_port.specs.State.{Port, Sent as Sending};
 ghost use Rattle.dali_port.specs.State as phase;
 ghost use Rattle.dali_port.specs.Frames.{begun_at};
-ghost use Rattle.dali_port.specs.Runs.{Call, after_all};
+ghost use Rattle.dali_port.specs.Runs.{Call, Turns, after_all};
 ghost use Rattle.dali_port.specs.Orders.{is_later, is_second};
 ghost use Rattle.dali_port.specs.Times.{frame_time, pair_time};
 ghost use Rattle.dali_port.specs.Calls.{timer_after};
@@ -21,9 +21,12 @@ ghost use Rattle.dali_bus_laws.specs.Table.{table};
 ghost use Rattle.dali_bus_laws.specs.Bus.{Edges, SeesFrom, first_read};
 ghost use Rattle.dali_bus_laws.specs.Pins.{edges_in, InOrder, AreEdgesOf, HasBegun, SendsWhole};
 ghost use Rattle.dali_bus_laws.specs.Pins.{seen_at, over_at};
-ghost use Rattle.dali_bus_laws.specs.Breaks.{BreaksOff};
+ghost use Rattle.dali_bus_laws.specs.Breaks.{is_breaking, BreaksOff};
 ghost use Rattle.dali_bus_laws.specs.Pairs.{first_after_all};
-ghost use Rattle.dali_bus_laws.specs.Transactions.{alone_after_all};
+ghost use Rattle.dali_bus_laws.specs.Transactions.{is_own, alone_after_all};
+ghost use Rattle.dali_bus_laws.specs.Words.{first_word, IsCalled, IsSentWhole, IsBrokenOff};
+ghost use Rattle.dali_frame.specs.declared.frames.Answer.{Answer};
+ghost use Rattle.dali_port.specs.declared.orders.Word.TheVariants.{Heard, Destroyed};
 
 /// A frame begins at rest: whatever the port did before, if its timer begins one, the bus is high, and no edge came for
 /// the settling time of its priority.
@@ -39,6 +42,18 @@ pub fn a_whole_frame_was_seen()
         → p.phase ≡ phase.Sending (begun_at order p.called) → p.is_low ≡ false
         → IsWhole p calls → InOrder p.called (calls ++ more)
         → AreEdgesOf false p.called (sent_levels (forward_bits order.frame)) (edges_in (calls ++ more)) }
+{}
+
+/// The word that a port tells of a frame says what became of it. If it tells silence, a byte or damaged, it sent the
+/// frame whole (`heard`). If it tells destroyed, it broke it off, or sent it whole and heard something though it had
+/// asked nothing (`destroyed`).
+pub fn a_word_says_what_became_of_the_frame()
+    ensures heard { (p : Port) (order : Order) (calls : List Call) (heard : Answer)
+        → p.phase ≡ phase.Sending (begun_at order p.called) → IsCalled table p calls
+        → first_word p calls ≡ Some (Heard heard) → IsSentWhole p calls }
+    ensures destroyed { (p : Port) (order : Order) (calls : List Call)
+        → p.phase ≡ phase.Sending (begun_at order p.called) → IsCalled table p calls
+        → first_word p calls ≡ Some Destroyed → IsSentWhole p calls ⊎ IsBrokenOff table p calls }
 {}
 
 /// What a port sent whole, each receiver on the bus that was at rest reads as exactly that frame.
@@ -73,9 +88,12 @@ pub fn a_pair_is_in_time()
 {}
 
 /// From power-up on a port begins a later frame of a transaction only if it was alone since its last frame: each edge
-/// came while that frame was on the bus, with its break or its window, and none was lost.
+/// came while that frame was on the bus, with its break or its window, and none was lost (`known`). An edge that comes
+/// when the bus was high for 12,401 µs is none of these (`noticed`): others begin a frame after 13,500 µs or more.
 pub fn a_broken_transaction_is_known()
-    ensures { (p : Port) (calls : List Call) (now : ℕ) (s : Sending) → p.is_over ≡ true → p.phase ≡ phase.Free
+    ensures known { (p : Port) (calls : List Call) (now : ℕ) (s : Sending) → p.is_over ≡ true → p.phase ≡ phase.Free
         → is_sending (after_all p calls).phase ≡ false → (timer_after (after_all p calls) now).phase ≡ phase.Sending s
         → is_later s.order ≡ true → alone_after_all p false calls ≡ true }
+    ensures noticed { (p : Port) (low : Bool) (now : ℕ) → is_sending p.phase ≡ false → is_breaking p.phase ≡ false
+        → p.receiver.is_low ≡ false → p.called ≤ now → p.edge + 12401 ≤ now → is_own p (Turns low now) ≡ false }
 {}

@@ -513,67 +513,6 @@ static void check_counting(void)
         must(instructions(&some, turns, top, &status) == 3 * some.at[0], "some instructions are counted otherwise");
 }
 
-#ifdef SAMPLED
-/* Where a call stands, once in so many counts, and where the calls that led there go on: how often, by the address in
- * the program. Each function keeps the frame of its caller in r7. */
-
-#define SAMPLE_COUNTS 10007
-#define SYSTICK_INTERRUPT 0x2
-/* More than the program has. */
-#define CODE_BYTES (256 * 1024)
-
-static uint32_t samples_at[CODE_BYTES / 2], samples_above[CODE_BYTES / 2];
-static const uint32_t *sampled_stack;
-
-__attribute__((used)) static void sample(const uint32_t *interrupted, const uint32_t *frame)
-{
-    samples_at[interrupted[6] % CODE_BYTES / 2]++;
-    while (frame >= sampled_stack && frame < sampled_stack + STACK_WORDS) {
-        samples_above[frame[1] % CODE_BYTES / 2]++;
-        frame = (const uint32_t *)frame[0];
-    }
-}
-
-__attribute__((naked)) void tick(void)
-{
-    __asm__ volatile("mov r0, sp\n"
-                     "mov r1, r7\n"
-                     "ldr r2, =sample\n"
-                     "bx r2\n"
-                     ".ltorg\n");
-}
-
-/* One call, whose samples are taken where it is the chosen one. */
-static uint32_t measured(const struct call *call, const struct arguments *arguments, uint32_t *top, uint32_t *status)
-{
-    uint32_t counts;
-
-    sampled_stack = top + ABOVE - STACK_WORDS;
-    SYSTICK_RELOAD = SAMPLE_COUNTS;
-    SYSTICK_CONTROL = SYSTICK_ON | (call->entry == (void (*)(void))SAMPLED ? SYSTICK_INTERRUPT : 0);
-    *status = counted(arguments, call->entry, top, &counts);
-    SYSTICK_CONTROL = SYSTICK_ON;
-    return 0;
-}
-
-static void report_samples(const char *kind, const uint32_t *samples)
-{
-    for (uint32_t at = 0; at < CODE_BYTES / 2; at++) {
-        if (samples[at] > 0) {
-            say(kind);
-            say_number(at * 2);
-            say_number(samples[at]);
-            say("\n");
-        }
-    }
-}
-#else
-static uint32_t measured(const struct call *call, const struct arguments *arguments, uint32_t *top, uint32_t *status)
-{
-    return instructions(arguments, call->entry, top, status);
-}
-#endif
-
 static void note(struct figure *bands, uint32_t count)
 {
     struct figure *figure = &bands[course.enrolled < 16 * BANDS ? course.enrolled / 16 : BANDS - 1];
@@ -592,7 +531,7 @@ static uint32_t measure(struct call *call, uint32_t *stack)
     if (!call->ready(&course, &arguments))
         return 0;
     stack[STACK_WORDS - ABOVE] = (uint32_t)arguments.at[4];
-    count = measured(call, &arguments, stack + STACK_WORDS - ABOVE, &status);
+    count = instructions(&arguments, call->entry, stack + STACK_WORDS - ABOVE, &status);
     must((uint8_t)status == DALI_OK, call->name);
     note(call->figures, count);
     return count;
@@ -839,9 +778,5 @@ int main(void)
         say_number(0);
         report_figures(later[at]);
     }
-#ifdef SAMPLED
-    report_samples("at", samples_at);
-    report_samples("above", samples_above);
-#endif
     return 1;
 }

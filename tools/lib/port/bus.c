@@ -13,6 +13,9 @@
 #define EVENTS 65536
 #define TAKEN 16
 #define NEVER UINT64_MAX
+/* Those of a port: a half bit, and for how long its level and that of the bus may differ. */
+#define HALF_BIT 417
+#define APART 40
 
 typedef uint64_t moment;
 
@@ -98,7 +101,7 @@ static uint32_t ports, gear;
 static struct on_air sent[64];
 static uint32_t sent_count;
 static uint64_t wrongs, told[16], garbled, frames_told, reads, edges_total, lost_total, spiked;
-static int is_site, is_loud, is_noisy, is_spiked, has_buttons, loses_power;
+static int is_site, is_loud, is_noisy, is_spiked, is_joined, has_buttons, loses_power;
 
 static FILE *trace;
 static uint32_t trial;
@@ -405,6 +408,25 @@ static uint32_t lateness(struct host *it)
     return late;
 }
 
+/* A second sender joins a frame that begins, level by level, and detects nothing. It makes lows longer, as much as the port may see at most: it
+ * begins each so much earlier as the port sees falls late, and ends it so late that the port sees it at the edge of what it takes. */
+static void join(struct host *it)
+{
+    uint32_t begun = local(&it->view, now), number = 0x10000u | (uint32_t)(it->order.address_byte << 8 | it->order.opcode_byte);
+    int is_low = 0;
+
+    for (uint32_t at = 0; at < 35; at++) {
+        uint32_t bit = at < 34 ? number >> (16 - at / 2) & 1 : 0, half = begun + at * HALF_BIT, lasts = below(4) ? APART : 30 + below(11);
+        int low = at < 34 && (at % 2 == 0 ? bit : !bit);
+
+        if (low != is_low && low)
+            plan(real(&it->view, half) - (at > 0 ? it->view.fall : 0), TOGGLE, 0, 1, 0);
+        if (low != is_low && !low)
+            plan(real(&it->view, half + lasts) - it->view.rise, TOGGLE, 0, 0, 0);
+        is_low = low;
+    }
+}
+
 void pins_drive(struct pins *pins, uint8_t is_low, uint32_t at)
 {
     struct host *it = host_of(pins);
@@ -421,6 +443,8 @@ void pins_drive(struct pins *pins, uint8_t is_low, uint32_t at)
         note_sent(it->begun, (uint32_t)(it->order.address_byte << 8 | it->order.opcode_byte), 1);
         if (it->ended_pair && now - it->ended_pair < 99000)
             wrong("a frame within 100 ms after a pair of RANDOMISE", who, it->order.opcode_byte);
+        if (is_joined && below(2))
+            join(it);
     }
     if (is_low != it->drives_low) {
         it->drives_low = is_low;
@@ -653,10 +677,10 @@ static void dispatch(struct event event)
     }
 }
 
-/* Up to so many; one in four is at an edge of that. */
+/* Up to so many; one in four is at an edge of that, and each if a second sender joins frames. */
 static uint32_t up_to(uint32_t most)
 {
-    return below(4) ? below(most + 1) : below(2) * most;
+    return !is_joined && below(4) ? below(most + 1) : below(2) * most;
 }
 
 static struct view view_drawn(void)
@@ -664,7 +688,7 @@ static struct view view_drawn(void)
     int32_t parts = (int32_t)up_to(2000 * CLOCK) - 1000 * CLOCK;
     struct view view = {parts, (uint32_t)chance_next(&chance), 0, 0, 0, 0, 0, 0, 0};
 
-    view.jitter = below(3);
+    view.jitter = is_joined ? 0 : below(3);
     view.rise = up_to(DIFFER - view.jitter);
     view.fall = up_to(DIFFER - view.jitter);
     return view;
@@ -722,6 +746,9 @@ static void try_frames(uint64_t seed)
     is_spiked = below(4) == 0 && !getenv("NO_SPIKES");
     has_buttons = below(3) == 0 && !getenv("NO_BUTTONS");
     loses_power = below(8) == 0 && !getenv("NO_POWER");
+    is_joined = below(4) == 0 && !getenv("NO_JOINED");
+    if (is_joined)
+        is_loud = is_noisy = is_spiked = has_buttons = loses_power = 0;
     reset(1 + below(PORTS), below(4) ? 1 + below(6) : 1 + below(BUS_MOST_GEAR));
     for (uint32_t at = 0; at < ports; at++) {
         host_up(&hosts[at], 0);
@@ -851,7 +878,7 @@ static void try_site(uint64_t seed)
 
     chance = seed;
     is_site = 1;
-    is_loud = is_spiked = loses_power = 0;
+    is_loud = is_spiked = is_joined = loses_power = 0;
     is_noisy = below(4) == 0;
     has_buttons = below(3) == 0;
     reset(2 + below(PORTS - 1), 1 + below(12));
@@ -887,7 +914,7 @@ int main(int count, char **words)
             trace = count > 4 ? fopen(name, "w") : NULL;
             if (trace)
                 fprintf(trace, "$timescale 1 us $end\n$var wire 1 ! bus $end\n$enddefinitions $end\n#0\n1!\n");
-            try_site(seed + trial);
+            try_site((seed << 32) + trial);
             if (trace) {
                 fprintf(trace, "#%llu\n", (unsigned long long)now + 100000);
                 fclose(trace);
@@ -895,7 +922,7 @@ int main(int count, char **words)
         }
     } else {
         for (trial = 0; frames_told < many; trial++)
-            try_frames(seed + trial);
+            try_frames((seed << 32) + trial);
     }
     printf("%u trials, %llu frames: silence %llu, byte %llu, damaged %llu, destroyed %llu, lapsed %llu; %llu read, %llu edges, %llu overruns, %llu late, %llu garbled\n",
            trial, (unsigned long long)frames_told, (unsigned long long)told[1], (unsigned long long)told[2], (unsigned long long)told[3],

@@ -1,5 +1,5 @@
-use Rattle.dali_bus_laws.proofs.Transactions.{broken_known}
+use Rattle.dali_bus_laws.proofs.Transactions.{broken_known, noticed}
 use Rattle.dali_bus_laws.proofs.laws.a_broken_transaction_is_known.Goals as goal
 
 pub returns : goal.returns
-returns c = broken_known
+returns c = record { known = broken_known; noticed = noticed }
