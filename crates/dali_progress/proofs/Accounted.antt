@@ -8,12 +8,12 @@ use Rattle.dali_progress.proofs.Below.{is_anothers, Machine, machine_told, machi
 use Rattle.dali_progress.proofs.Below.{is_withheld_by, machine_surveying, machine_lost, course_by, next_course, beginning, IsGiven, IsSought, IsAnswered}
 use Rattle.dali_progress.proofs.Below.{IsOrdered, AfterFinding, AfterReserved, AfterMaskBy, AfterMaskOn, AfterMaskSurveyed, machine_after, machine_ordered}
 use Rattle.dali_progress.proofs.Below.{has_short, with_short, without_short, Purpose, Asking, Shorts, Way, Fresh, Surveying, found_number, IsNamed, Step}
-use Rattle.dali_progress.proofs.Below.{IsTaken, IsCourse, stage_told, heard_at, heard_by, WasHeard, IsPlain, ArePlain, IsAccounted}
+use Rattle.dali_progress.proofs.{Below.{IsTaken, IsCourse, stage_told, heard_at, heard_by, WasHeard, IsPlain, ArePlain, IsAccounted}, Later.later_leaves}
+use Rattle.dali_progress.proofs.Later.{some_same}
 use Rattle.dali_script.specs.declared.orders.Due.TheVariants as due
 use Rattle.dali_script.specs.declared.orders.Fault.TheVariants as fault
 use Rattle.dali_script.specs.declared.orders.Input.TheVariants as input
 use Rattle.dali_script.specs.declared.stage.Stage.TheVariants as stage
-use Rattle.dali_progress.proofs.{Later.later_leaves}
 
 -- WHO WAS HEARD IN A SURVEY IS ACCOUNTED FOR.
 
@@ -73,9 +73,6 @@ marks_keep : (p : Purpose) (s : Stage) (h : Answer) (heard : Shorts) (a : ℕ) �
     → Leaves p s (heard_after p s h heard) a
 marks_keep (Asking b) s h heard a small plain has = asked_keeps b s h heard a small plain has
 marks_keep _ s h heard a small plain has = inl has
-
-some_same : (c a : ℕ) → Some c ≡ Some a → c ≡ a
-some_same c a e = cc
 
 marks_made : (b : ℕ) (s : Stage) (h : Answer) (heard : Shorts) (a : ℕ) → a < 64 → IsPlain s → heard_at s h ≡ Some a
     → Leaves (Asking b) s (marked_at s h heard) a
@@ -182,8 +179,7 @@ accounted_stays s n a small taken plain was = subst (λ (x : Machine). IsAccount
   go : IsAccounted s.before a → IsAccounted (machine_after s.before s.told s.order) a
   go (inl has) = marked_step s.before s.told s.order a small plain taken.due taken.given has
   go (inr (inl (r, has))) = inr (inl (r, told_enrolled s.before s.told (a, r) has))
-  go (inr (inr (inl (r, last)))) =
-      named_counts (machine_after s.before s.told s.order) a r (enrolling s.before s.told s.order a r last taken.due taken.given)
+  go (inr (inr (inl (r, last)))) = named_counts (machine_after s.before s.told s.order) a r (enrolling s.before s.told s.order a r last taken.due taken.given)
   go (inr (inr (inr (w, last)))) = absurd (never_due s.before.last w s.told last taken.due)
 
 heard_of_survey : (p : Purpose) (h : Answer) (s : Stage) (a : ℕ) → heard_by (input.Heard h) p s ≡ Some a → (b : ℕ) × (p ≡ Asking b) × (heard_at s h ≡ Some a)
@@ -279,8 +275,7 @@ unreserved s n a r taken is other counts =
 -- and none under which some gear was heard
 pub never_reserved : (s : Step) (earlier : List Step) (n : Machine) (a r : ℕ) → a < 64 → IsCourse (s ∷ earlier) n → ArePlain (s ∷ earlier)
     → s.order ≡ Commit (Reserve a r) → (n.course.way ≡ Fresh → ⊥) → WasHeard (s ∷ earlier) a → ⊥
-never_reserved s earlier n a r small course plain is other heard =
-    unreserved s n a r course.1 is other (accounted (s ∷ earlier) n a small course plain heard)
+never_reserved s earlier n a r small course plain is other heard = unreserved s n a r course.1 is other (accounted (s ∷ earlier) n a small course plain heard)
 
 -- what is reserved is given unless it is another's
 false_both : (one two : Bool) → (one || two) ≡ false → (one ≡ false) × (two ≡ false)

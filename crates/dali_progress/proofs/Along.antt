@@ -20,8 +20,7 @@ pub record GoesBy (K : Controller → Machine → Type 0) (H : Machine → Optio
   pub known : K (controller_at w c) m
   pub holds : H m (controller_at w c).last (controller_at w c).told w.gear
 
-pub record RunsBy (K : Controller → Machine → Type 0) (H : Machine → Option Order → Option Input → List Gear → Type 0) (s : SiteState) (c : ℕ)
-    : Type 0 where
+pub record RunsBy (K : Controller → Machine → Type 0) (H : Machine → Option Order → Option Input → List Gear → Type 0) (s : SiteState) (c : ℕ) : Type 0 where
   pub run : IsRun s.plan s.queue s.log
   pub machine : Machine
   pub there : machine_at s c ≡ Some machine
@@ -76,8 +75,7 @@ module _ (K : Controller → Machine → Type 0) (H : Machine → Option Order �
   -- the controller acts
   pub acted_to : (After : Machine → Option Order → Option Input → List Gear → Type 0) (by : Bool) (s : SiteState) (c : ℕ) (i : Input) (o : Order)
       → (r : RunsBy K H s c) → Allowed (world s) (event.Acted c i o) → Succeeds by i → MayAnswer (machine_at s c) i o
-      → LeavesUsed s.plan.used (event.Acted c i o)
-      → (IsRun s.plan s.queue (site_logged s (event.Acted c i o)).log → IsGivenBy (machine_told r.machine i) o
+      → LeavesUsed s.plan.used (event.Acted c i o) → (IsRun s.plan s.queue (site_logged s (event.Acted c i o)).log → IsGivenBy (machine_told r.machine i) o
       → K (controller_at (happens (world s) (event.Acted c i o)) c) (machine_after r.machine i o)
       × After (machine_after r.machine i o) (Some o) None (world s).gear) → RunsBy K After (site_logged s (event.Acted c i o)) c
   acted_to After by s c i o r here good may leaves acts =
@@ -157,8 +155,7 @@ module _ (First : Machine → List Gear → Type 0) (Hears : Machine → ℕ →
       → To (controller_at w c).last (controller_at w c).told (machine_told m i)
   acts_from by Known To w q c m i o begun heard kept l good due given known holds =
       acts_by by (λ x t j. Moment w q c m (controller_at w c).outstanding x t → m.last ≡ x → IsGivenBy (machine_told m j) o → Known j (machine_told m j)
-      → HoldsBy First Hears Next m x t w.gear
-      → To x t (machine_told m j)) (λ at is g n held. begun is g n held)
+      → HoldsBy First Hears Next m x t w.gear → To x t (machine_told m j)) (λ at is g n held. begun is g n held)
       (λ p f h at is g n held. (let same : machine_told m (input.Heard h) ≡ machine_heard m (Some f) h = ap (λ x. machine_heard m (frame_put x) h) is in
       subst (To (Some (Put p f)) (Some (input.Heard h))) (sym same)
       (heard p f h is (subst (λ t. IsGivenBy t o) same g) (subst (Known (input.Heard h)) same n) held)))

@@ -44,7 +44,7 @@ pub given_second : IsGiven (at_first 1 (without_records second_block)) input.Sta
 unfolding command_of stage_of
 given_second =
     first_given (at_first 1 (without_records second_block)) input.Start Free Terminate (λ e. cc)
-    (record { stage = refl; plain = tt; tries = refl; silent = refl; last = tt }) refl refl (refl, inl refl) (Open, tt, refl) (λ g e. cc)
+    (refl, tt, refl, refl, tt) refl refl (refl, inl refl) (Open, tt, refl) (λ g e. cc)
 
 pub starts : BeginsAlone ByStart shared_site 0
 starts = (

@@ -39,8 +39,7 @@ begun_runs BySurvey s c a = survey.starts s c a
 
 pub runs_after : (b : Beginning) (s : SiteState) (c : ℕ) (es : List Event) → BeginsAlone b s c → Rounds (by_survey b) s c es
     → RunsAll (measure b s c) s c (most_frames b (bare s)) es
-runs_after ByStart s c es a rounds =
-    runs_all (measure ByStart s c) (argues ByStart s c) s c (most_frames ByStart (bare s)) es (begun_runs ByStart s c a) rounds
+runs_after ByStart s c es a rounds = runs_all (measure ByStart s c) (argues ByStart s c) s c (most_frames ByStart (bare s)) es (begun_runs ByStart s c a) rounds
 runs_after BySurvey s c es a rounds =
     runs_all (measure BySurvey s c) (argues BySurvey s c) s c (most_frames BySurvey (bare s)) es (begun_runs BySurvey s c a) rounds
 
@@ -86,8 +85,7 @@ goes_on b s c es a rounds =
 
 pub ends : (b : Beginning) (s : SiteState) (c : ℕ) (es : List Event) (e : End) → BeginsAlone b s c → Rounds (by_survey b) s c es
     → HasEnded (site_after s es) c e → IsTrueEnd b s (site_after s es) c e
-ends ByStart s c es e a rounds ended =
-    let all = runs_after ByStart s c es a rounds in (start.ended_by s (site_after s es) c all.rest e all.runs ended).0
+ends ByStart s c es e a rounds ended = let all = runs_after ByStart s c es a rounds in (start.ended_by s (site_after s es) c all.rest e all.runs ended).0
 ends BySurvey s c es e a rounds ended =
     let all = runs_after BySurvey s c es a rounds in
     let by = survey.ended_by s (site_after s es) c all.rest e all.runs ended in
@@ -95,8 +93,7 @@ ends BySurvey s c es e a rounds ended =
 
 pub named : (b : Beginning) (s : SiteState) (c : ℕ) (es : List Event) (e : End) → BeginsAlone b s c → Rounds (by_survey b) s c es
     → HasEnded (site_after s es) c e → NamesAll (by_survey b) s (table_at (site_after s es) c) (site_after s es)
-named ByStart s c es e a rounds ended =
-    let all = runs_after ByStart s c es a rounds in (start.ended_by s (site_after s es) c all.rest e all.runs ended).1
+named ByStart s c es e a rounds ended = let all = runs_after ByStart s c es a rounds in (start.ended_by s (site_after s es) c all.rest e all.runs ended).1
 named BySurvey s c es e a rounds ended =
     let all = runs_after BySurvey s c es a rounds in
     survey.tabled s (site_after s es) c e (survey.ended_by s (site_after s es) c all.rest e all.runs ended)

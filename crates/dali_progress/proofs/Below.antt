@@ -103,8 +103,8 @@ pub use Rattle.dali_progress.{specs.Ends.{EndsWell, IsUnseen, AreTabled, Commits
 pub use Rattle.dali_progress.{specs.Misheard.{IsOfRoundBut, RoundsBut, EndsWellBut, IsTrueEndBut, AreServedBut, IsNoByte}, specs.Replaced.{IsVacant, HasVacant}}
 pub use Rattle.dali_progress.{specs.Replaced.{HasNew, only, IsServed, IsReplacing}, specs.Rounds.{HasEnded, HasNext, GoesOn, IsAlone, Succeeds, IsOfRound}}
 pub use Rattle.dali_progress.specs.Rounds.{Rounds, site_after, is_frame, frames, ByStart, BeginsAlone, most_events, Beginning, most_frames, by_survey, BySurvey}
-pub use Rattle.dali_progress.{specs.Rounds.{bare, IsSettled, IsSettledAt, restarted}, specs.Running.{HasEndedBy, WasRefused, HasBegun, begun, RanAlone}}
-pub use Rattle.dali_progress.{specs.Running.{HasNoneUsed, SparesUsed, SparesUsedOf, HasRoom}, specs.Spared.{HavePower, IsOfCall, AreOfCalls, HasJustBegun}}
+pub use Rattle.dali_progress.{specs.Rounds.{bare, IsSettled, IsSettledAt, IsSettledOn, restarted}, specs.Running.{HasEndedBy, WasRefused, HasBegun, begun}}
+pub use Rattle.dali_progress.{specs.Running.{RanAlone, HasNoneUsed, SparesUsed, SparesUsedOf, HasRoom}, specs.Spared.{HavePower, IsOfCall, AreOfCalls}}
 pub use Rattle.dali_progress.specs.Spared.{AsksInPeace, AllAskInPeace, IsUsedOf, BeginsBySurveys, asks_first, is_silence, silences_after, IsHeardInTime}
-pub use Rattle.dali_progress.{specs.Spared.{HearsUsed, HasAsked, StaysBegun}, specs.Surveyed.{Step, IsTaken, IsCourse, stage_told, heard_at, heard_by}}
-pub use Rattle.dali_progress.specs.Surveyed.{WasHeard, IsPlain, ArePlain, IsAccounted}
+pub use Rattle.dali_progress.{specs.Spared.{HasJustBegun, HearsUsed, HasAsked, StaysBegun}, specs.Surveyed.{Step, IsTaken, IsCourse, stage_told, heard_at}}
+pub use Rattle.dali_progress.specs.Surveyed.{heard_by, WasHeard, IsPlain, ArePlain, IsAccounted}

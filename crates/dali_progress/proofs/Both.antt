@@ -9,14 +9,13 @@ use Rattle.dali_progress.proofs.Below.{sought, byte_to_send, call_turn, turn_of,
 use Rattle.dali_progress.proofs.Below.{IsAddressing, Purpose, Opening, Probing, Visiting, Closing, Hunting, Calling, PassingOver, Asking, Resolving, Drawing}
 use Rattle.dali_progress.proofs.Below.{IsNoEnrolment, IsGivenBy, Allowed, happens, is_arc, trace_running, AreDrawn, IsRun, Seek, OfPowered, is_bare, IsOpened}
 use Rattle.dali_progress.proofs.Below.{NoneNamed, wants, is_wanted, World, controller_at, lawful_of, gear_are_searched, opened_apart, AreOpening, SiteState}
-use Rattle.dali_progress.proofs.Below.{world, site_logged, Succeeds}
-use Rattle.dali_events.specs.Searching.{number_at}
+use Rattle.dali_progress.proofs.{Below.{world, site_logged, Succeeds}, Frames.{IsTaken, value_sought}, Logged.{drawn_now, world_logged, run_logged}}
+use Rattle.dali_progress.proofs.{Lone.Addresses, Stands.{Opens, Sends, AsksBy, Visits, VisitFrames, search_frames, CloseStage}, Tables.StandsStill}
+use Rattle.{dali_progress.proofs.Tables.{still_twice, LeavesNames}, dali_events.specs.Searching.number_at}
 use Rattle.dali_script.specs.declared.orders.Input.TheVariants as input
 use Rattle.dali_script.specs.declared.stage.Stage.TheVariants as stage
 use Rattle.dali_controller.proofs.Given as given
 use Rattle.dali_events.specs.declared.event.Event.TheVariants as event
-use Rattle.dali_progress.proofs.{Frames.{IsTaken, value_sought}, Logged.{drawn_now, world_logged, run_logged}, Lone.Addresses, Stands.{Opens, Sends, AsksBy}}
-use Rattle.dali_progress.proofs.{Stands.{Visits, VisitFrames, search_frames, CloseStage}, Tables.{StandsStill, still_twice, LeavesNames}}
 
 -- WHAT BOTH ARGUMENTS USE, of a start and of a survey.
 
@@ -51,8 +50,7 @@ with_kept m x = record m { kept = with_record m.kept x }
 -- a visit begins once an address is reserved
 pub reserved_begins : (m : Machine) (a r : ℕ) (o : Order) → m.tries ≡ 0 → m.trace ≡ [] → m.last ≡ Some (Commit (Reserve a r))
     → IsGivenBy (with_kept m (Reserve a r)) o → o ≡ beginning (next_course (with_kept m (Reserve a r)))
-reserved_begins m a r o tries free last by =
-    given.begins_free (with_kept m (Reserve a r)) o by free (no_enrolment a r m.last last) (never_eight m.tries tries)
+reserved_begins m a r o tries free last by = given.begins_free (with_kept m (Reserve a r)) o by free (no_enrolment a r m.last last) (never_eight m.tries tries)
 
 -- and another transaction once an entry is kept
 pub enrolled_begins : (m : Machine) (b r : ℕ) (o : Order) → Has m.kept.reserved (b, r) → m.trace ≡ [] → m.last ≡ Some (Commit (Enrol b r))

@@ -70,8 +70,7 @@ module _ (M : Measure) (a : Argument M) (P : Machine → List Gear → List ℕ 
       (ap (λ x. (controller_at x c).told) (world_logged s (event.Sent c f h)) ∙ lone.1) in
       stays_logged P s c (event.Sent c f h) u.machine there
       (subst (λ t. P (informed_by u.machine t) (row_after Everyone (command_of f) 0 w.gear w.left) (row_left Everyone (command_of f) 0 w.gear w.left))
-      (sym lone.1) (d.sends s c left l p f h u here heard last
-      (held M s c left u.machine (Some (Put p f)) None u u.there (sym u.goes.lone.last ∙ last) told)
+      (sym lone.1) (d.sends s c left l p f h u here heard last (held M s c left u.machine (Some (Put p f)) None u u.there (sym u.goes.lone.last ∙ last) told)
       (subst (λ (x : World). M.holds u.machine (Some (Put p f)) (Some (input.Heard h)) x.gear l) (world_logged s (event.Sent c f h)) now)
       (subst (λ t. P (informed_by u.machine t) w.gear w.left) told (has u.machine u.there))))
 
@@ -98,8 +97,7 @@ module _ (M : Measure) (a : Argument M) (P : Machine → List Gear → List ℕ 
   spent_never s c left u has (r, is, spent) =
       let w : World = world s in
       let put = lone_next w s.queue c u.machine r u.goes.lone is in
-      never (draws_needed Everyone (command_of r.frame) 0 w.gear) (length w.left)
-      (d.enough u.machine put.0 r.frame w.gear w.left left put.1
+      never (draws_needed Everyone (command_of r.frame) 0 w.gear) (length w.left) (d.enough u.machine put.0 r.frame w.gear w.left left put.1
       (held M s c left u.machine (Some (Put put.0 r.frame)) None u u.there (sym u.goes.lone.last ∙ put.1) put.2)
       (subst (λ t. P (informed_by u.machine t) w.gear w.left) put.2 (has u.machine u.there))) spent
     where

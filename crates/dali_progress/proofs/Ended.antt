@@ -1,17 +1,15 @@
 use Rattle.dali_progress.proofs.Below.{◌≡◌, ℕ, suc, ◌+◌, ◌≤◌, true, false, List, [], ◌∷◌, refl, sym, ap, subst, ◌∙◌, arith, length, Option, Some, None, Ok, ◌<◌}
 use Rattle.dali_progress.proofs.Below.{◌⊎◌, inl, inr, Bool, Input, Order, Put, Record, Machine, Allowed, IsDue, happens, World, Controller, controller_at}
 use Rattle.dali_progress.proofs.Below.{Event, SiteState, world, site_logged, next_request, Installation, has_turn, Plan, get_or-set_other, nobody, Succeeds}
-use Rattle.dali_progress.proofs.Below.{IsOfRound, Rounds}
-use Rattle.dali_progress.proofs.Below.{site_after, frames, IsAlone, most_frames, BySurvey, bare, most_events, Beginning, GoesOn, by_survey, BeginsAlone}
-use Rattle.dali_progress.proofs.Below.{HasEndedBy, WasRefused, HasBegun, begun, RanAlone}
+use Rattle.dali_progress.proofs.Below.{IsOfRound, Rounds, site_after, frames, IsAlone, most_frames, BySurvey, bare, most_events, Beginning, GoesOn, by_survey}
+use Rattle.dali_progress.proofs.{Below.{BeginsAlone, HasEndedBy, WasRefused, HasBegun, begun, RanAlone}, Along.{Runs, runs_on}, Logged.world_logged}
+use Rattle.dali_progress.proofs.{Lone.{Moment, acted_last, sent_last, lone_next}, Running.{IsLeft, AreLeft, Comes, Came, StaysAlone, all_played, over}}
+use Rattle.dali_progress.proofs.{Running.{due_turn, plan_after}, Survey.{Goes.{of_survey, argument, began_at, starts}, Stands.Begun}, Beginnings.measure}
+use Rattle.dali_progress.proofs.Beginnings.{argues, begun_runs, rounds_by, alone_of, bounded, few_events, after, goes_on, ends, named}
 use Rattle.dali_script.specs.declared.orders.Input.TheVariants as input
 use Rattle.dali_events.specs.declared.event.Event.TheVariants as event
 use Rattle.dali_replay.specs.Installation as replayed
 use Rattle.dali_replay.specs.Rounds as replay
-use Rattle.dali_progress.proofs.{Along.{Runs, runs_on}, Logged.world_logged, Lone.{Moment, acted_last, sent_last, lone_next}, Running.{IsLeft, AreLeft, Comes}}
-use Rattle.dali_progress.proofs.Running.{Came, StaysAlone, all_played, over, due_turn, plan_after}
-use Rattle.dali_progress.proofs.{Survey.Goes.{of_survey, argument, began_at, starts}, Survey.Stands.Begun}
-use Rattle.dali_progress.proofs.Beginnings.{measure, argues, begun_runs, rounds_by, alone_of, bounded, few_events, after, goes_on, ends, named}
 
 -- A RUN OF ROUNDS after a survey began, on an installation with one controller.
 
@@ -138,8 +136,7 @@ module _ (me : ℕ) where
 
   -- the others are as they were
   all_others : (b : Beginning) (first s : SiteState) (left : ℕ) (es : List Event) (d : ℕ) → Runs (measure b first me) s me left
-      → Rounds (measure b first me).by s me es
-      → (d ≡ me → ⊥) → controller_at (world (site_after s es)) d ≡ controller_at (world s) d
+      → Rounds (measure b first me).by s me es → (d ≡ me → ⊥) → controller_at (world (site_after s es)) d ≡ controller_at (world s) d
   all_others b first s left [] d u rounds other = refl
   all_others b first s left (e ∷ es) d u rounds other =
       let on = runs_on (measure b first me) (argues b first me) s me left e u rounds.0 rounds.1 in
@@ -153,12 +150,10 @@ module _ (me : ℕ) where
 
   -- so it alone has a turn, then too
   pub stays_alone : (b : Beginning) (limit : ℕ) (n between : Installation) (sent : ℕ) (text : List ℕ) (m : Installation)
-      → RanAlone b me limit n between sent text m
-      → StaysAlone me between
+      → RanAlone b me limit n between sent text m → StaysAlone me between
   stays_alone b limit n between sent text m r u k f comes = record {
     known = subst (λ (p : Plan). me < length p.blocks) (sym plan) r.turns.known;
-    others = λ d there other. ap has_turn (others d other)
-        ∙ r.turns.others d (subst (λ (p : Plan). d < length p.blocks) plan there) other;
+    others = λ d there other. ap has_turn (others d other) ∙ r.turns.others d (subst (λ (p : Plan). d < length p.blocks) plan there) other;
   } where
     all : Came me (by_survey b) n.site u.site k f
     all = came_so b n between u.site k f r.alone r.has_begun comes
@@ -172,15 +167,13 @@ module _ (me : ℕ) where
         (rounds_by b n.site n.site me all.events all.rounds) other
 
   comes_of : (b : Beginning) (limit : ℕ) (n between : Installation) (sent : ℕ) (text : List ℕ) (m : Installation)
-      → (r : RanAlone b me limit n between sent text m)
-      → Comes me between.site r.ran.between.site r.ran.rounds sent
+      → (r : RanAlone b me limit n between sent text m) → Comes me between.site r.ran.between.site r.ran.rounds sent
   comes_of b limit n between sent text m r =
       all_played me between r.ran.between r.ran.rounds sent r.ran.front (stays_alone b limit n between sent text m r) r.ran.played
 
   -- NO MORE FRAMES are sent
   pub run_frames : (b : Beginning) (limit : ℕ) (n between : Installation) (sent : ℕ) (text : List ℕ) (m : Installation)
-      → RanAlone b me limit n between sent text m
-      → sent ≤ most_frames b (bare n.site)
+      → RanAlone b me limit n between sent text m → sent ≤ most_frames b (bare n.site)
   run_frames b limit n between sent text m r =
       let all = came_so b n between r.ran.between.site r.ran.rounds sent r.alone r.has_begun (comes_of b limit n between sent text m r) in
       subst (λ x. x ≤ most_frames b (bare n.site)) all.sent (bounded b n.site me all.events r.alone all.rounds)

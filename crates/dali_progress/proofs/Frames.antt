@@ -5,7 +5,8 @@ use Rattle.dali_progress.proofs.Below.{SearchLow, Program, QueryShort, Unaddress
 use Rattle.dali_progress.proofs.Below.{answers_of, heard_of, Everyone, Enabled, Kept, Has, next_stage, queried, verified, IsSearched, End, AllFound, Stage}
 use Rattle.dali_progress.proofs.Below.{Search, Agrees, Gives, HasAtMost, sought, is_yes, Purpose, Opening, Probing, Visiting, Closing, HasShort, is_wanted}
 use Rattle.dali_progress.proofs.Below.{wants, is_bare, OfPowered, Seek, AreApart, IsOpened, NoneNamedBut, AreNamed, gear_of, row_length, LeavesShort, SameCore}
-use Rattle.dali_progress.proofs.Below.{EndsWell}
+use Rattle.dali_progress.proofs.{Below.{EndsWell, ◌%◌, AreOpening}, Stands.{sent_at, search_frames, probe_frames, OpeningStage, Opens, ProbeStage, Probes}}
+use Rattle.dali_progress.proofs.Stands.{VisitStage, IsVisited, VisitFrames, Visits, HaveShort, Names, VisitsAt, Closes, At, Sends, some_is, visit_by}
 use Rattle.dali_events.specs.Searching.{number_at}
 use Rattle.dali_script.specs.declared.stage.Stage.TheVariants as stage
 use Rattle.dali_events.proofs.Search.Heard as hearing
@@ -14,8 +15,6 @@ use Rattle.dali_events.proofs.Search.Opened as opening
 use Rattle.dali_events.proofs.Search.Programming as programming
 use Rattle.dali_events.proofs.Search.Wanted as wanted
 use Rattle.dali_events.proofs.Search.Withdrawing as withdrawing
-use Rattle.dali_progress.proofs.Stands.{sent_at, search_frames, probe_frames, Opens, ProbeStage, Probes, VisitStage, IsVisited, VisitFrames, Visits, HaveShort}
-use Rattle.dali_progress.proofs.Stands.{Names, VisitsAt, Closes, At, Sends, some_is, visit_by}
 
 -- A FRAME IS SENT, and each gear with power takes it. The transaction goes on to its next stage, and one frame less is
 -- left to be sent.
@@ -32,8 +31,7 @@ abbrev pub Seeks : Stage → List Gear → Type 0
 Seeks s gs = (r : SearchAddress) → number_at s ≡ Some r → Seek gs r
 
 abbrev pub IsSentTo : Purpose → Stage → Kept → Bool → Search → SearchAddress → List Gear → List ℕ → ℕ → Command → Answer → Type 0
-IsSentTo p s k opened x n gs numbers left c h =
-    (l : ℕ) × (left ≡ suc l) × At p (next_stage s c h) k opened x n (row_after Everyone c 0 gs numbers) l
+IsSentTo p s k opened x n gs numbers left c h = (l : ℕ) × (left ≡ suc l) × At p (next_stage s c h) k opened x n (row_after Everyone c 0 gs numbers) l
 
 -- one frame less
 pub one_less : (need left sent : ℕ) → need ≤ left + sent → sent < need → (l : ℕ) × (left ≡ suc l) × (need ≤ l + (sent + 1))
@@ -42,52 +40,50 @@ one_less need (suc l) sent enough small = (l, refl, omega (arith, enough))
 
 -- ---------------------------------------------------------------- an opening
 
-opens_less : (c : Command) (gs : List Gear) (numbers : List ℕ) (left sent : ℕ) → LeavesShort c → 5 + search_frames (count_by is_bare gs) ≤ left + sent
-    → sent < 5 → (l : ℕ) × (left ≡ suc l) × (5 + search_frames (count_by is_bare (row_after Everyone c 0 gs numbers)) ≤ l + (sent + 1))
-opens_less c gs numbers left sent leaves enough small =
-    let less = one_less (5 + search_frames (count_by is_bare gs)) left sent enough (omega (arith, small)) in
-    (less.0, less.1, rw (leaving.count_bare_after c gs numbers leaves) less.2)
+-- one frame more of it, which leaves short addresses
+opening_next : (s t : Stage) (k : Kept) (x : Search) (n : SearchAddress) (gs : List Gear) (numbers : List ℕ) (left : ℕ) (d : Command) → Opens s gs left
+    → LeavesShort d → OpeningStage t → AreOpening t (row_after Everyone d 0 gs numbers) → sent_at t ≡ sent_at s + 1 → sent_at s < 5
+    → (l : ℕ) × (left ≡ suc l) × At Opening t k false x n (row_after Everyone d 0 gs numbers) l
+opening_next s t k x n gs numbers left d o leaves stage gear sent few =
+    let less = one_less (5 + search_frames (count_by is_bare gs)) left (sent_at s) o.frames (omega (arith, few)) in
+    let enough : 5 + search_frames (count_by is_bare gs) ≤ less.0 + sent_at t =
+    subst (λ m. 5 + search_frames (count_by is_bare gs) ≤ less.0 + m) (sym sent) less.2 in
+    (less.0, less.1, (refl, record { stage_is = stage; gear = gear; frames = rw (leaving.count_bare_after d gs numbers leaves) enough }))
 
-opening_sent : (s : Stage) (k : Kept) (opened : Bool) (x : Search) (n : SearchAddress) (gs : List Gear) (numbers : List ℕ) (left : ℕ) (c : Command) (h : Answer)
-    → opened ≡ false → Opens s gs left → Sends Opening n k s c → IsTaken c gs numbers h → IsSentTo Opening s k opened x n gs numbers left c h
-opening_sent stage.Free k opened x n gs numbers left c h closed o is taken =
-    subst (λ d. IsSentTo Opening stage.Free k opened x n gs numbers left d h) (sym is) go where
-      go : IsSentTo Opening stage.Free k opened x n gs numbers left Terminate h
-      go =
-          let less = opens_less Terminate gs numbers left 0 tt o.frames (omega arith) in
-          (less.0, less.1, (closed, record { stage_is = tt; gear = opening.opening_terminated gs numbers; frames = less.2 }))
-opening_sent stage.Terminated k opened x n gs numbers left c h closed o is taken =
-    subst (λ d. IsSentTo Opening stage.Terminated k opened x n gs numbers left d h) (some_is (Initialise Unaddressed) c is) go where
-      go : IsSentTo Opening stage.Terminated k opened x n gs numbers left (Initialise Unaddressed) h
-      go =
-          let less = opens_less (Initialise Unaddressed) gs numbers left 1 tt o.frames (omega arith) in
-          (less.0, less.1, (closed, record { stage_is = tt; gear = opening.opening_initialised_once gs numbers o.gear; frames = less.2 }))
-opening_sent stage.InitialisedOnce k opened x n gs numbers left c h closed o is taken =
-    subst (λ d. IsSentTo Opening stage.InitialisedOnce k opened x n gs numbers left d h) (some_is (Initialise Unaddressed) c is) go where
-      go : IsSentTo Opening stage.InitialisedOnce k opened x n gs numbers left (Initialise Unaddressed) h
-      go =
-          let less = opens_less (Initialise Unaddressed) gs numbers left 2 tt o.frames (omega arith) in
-          (less.0, less.1, (closed, record { stage_is = tt; gear = opening.opening_initialised gs numbers o.gear; frames = less.2 }))
-opening_sent stage.Initialised k opened x n gs numbers left c h closed o is taken =
-    subst (λ d. IsSentTo Opening stage.Initialised k opened x n gs numbers left d h) (some_is Randomise c is) go where
-      go : IsSentTo Opening stage.Initialised k opened x n gs numbers left Randomise h
-      go =
-          let less = opens_less Randomise gs numbers left 3 tt o.frames (omega arith) in
-          (less.0, less.1, (closed, record { stage_is = tt; gear = opening.opening_randomised_once gs numbers o.gear; frames = less.2 }))
-opening_sent stage.RandomisedOnce k opened x n gs numbers left c h closed o is taken =
-    subst (λ d. IsTaken d gs numbers h → IsSentTo Opening stage.RandomisedOnce k opened x n gs numbers left d h) (some_is Randomise c is) go taken where
-      go : IsTaken Randomise gs numbers h → IsSentTo Opening stage.RandomisedOnce k opened x n gs numbers left Randomise h
-      go t =
-          let less = opens_less Randomise gs numbers left 4 tt o.frames (omega arith) in
-          (less.0, less.1, (closed, record { stage_is = tt; gear = opening.opening_opened gs numbers t.enough t.below o.gear; frames = less.2 }))
-opening_sent stage.Opened k opened x n gs numbers left c h closed o is taken = absurd (cc)
-opening_sent _ k opened x n gs numbers left c h closed o is taken = absurd o.stage_is
+opening_sent : (s : Stage) (k : Kept) (x : Search) (n : SearchAddress) (gs : List Gear) (numbers : List ℕ) (left : ℕ) (c : Command) (h : Answer)
+    → Opens s gs left → Sends Opening n k s c → IsTaken c gs numbers h → IsSentTo Opening s k false x n gs numbers left c h
+opening_sent stage.Free k x n gs numbers left c h o is taken =
+    subst (λ d. IsSentTo Opening stage.Free k false x n gs numbers left d h) (sym is)
+    (opening_next stage.Free stage.Terminated k x n gs numbers left Terminate o tt tt (opening.opening_terminated gs numbers) refl (omega arith))
+opening_sent stage.Terminated k x n gs numbers left c h o is taken =
+    subst (λ d. IsSentTo Opening stage.Terminated k false x n gs numbers left d h) (some_is (Initialise Unaddressed) c is)
+    (opening_next stage.Terminated stage.InitialisedOnce k x n gs numbers left (Initialise Unaddressed) o tt tt
+    (opening.opening_initialised_once gs numbers o.gear) refl (omega arith))
+opening_sent stage.InitialisedOnce k x n gs numbers left c h o is taken =
+    subst (λ d. IsSentTo Opening stage.InitialisedOnce k false x n gs numbers left d h) (some_is (Initialise Unaddressed) c is)
+    (opening_next stage.InitialisedOnce stage.Initialised k x n gs numbers left (Initialise Unaddressed) o tt tt
+    (opening.opening_initialised gs numbers o.gear) refl (omega arith))
+opening_sent stage.Initialised k x n gs numbers left c h o is taken =
+    subst (λ d. IsSentTo Opening stage.Initialised k false x n gs numbers left d h) (some_is Randomise c is)
+    (opening_next stage.Initialised stage.RandomisedOnce k x n gs numbers left Randomise o tt tt (opening.opening_randomised_once gs numbers o.gear) refl
+    (omega arith))
+opening_sent stage.RandomisedOnce k x n gs numbers left c h o is taken =
+    subst (λ d. IsTaken d gs numbers h → IsSentTo Opening stage.RandomisedOnce k false x n gs numbers left d h) (some_is Randomise c is)
+    (λ t. opening_next stage.RandomisedOnce stage.Opened k x n gs numbers left Randomise o tt tt
+    (opening.opening_opened gs numbers t.enough t.below o.gear) refl (omega arith)) taken
+opening_sent stage.Opened k x n gs numbers left c h o is taken = absurd (cc)
+opening_sent _ k x n gs numbers left c h o is taken = absurd o.stage_is
 
 -- ---------------------------------------------------------------- a probe
 
 -- the number that is sought
 pub value_sought : (r : ℕ) → value_of (sought r) ≡ r
 value_sought r = grind arith
+
+pub low_byte : (n : SearchAddress) (v : ℕ) → n ≡ sought v → n.low < 256
+low_byte n v is = subst (λ (m : SearchAddress). m.low < 256) (sym is) (low v) where
+  low : (r : ℕ) → r % 256 < 256
+  low r = omega arith
 
 whole : (n : SearchAddress) (high middle : ℕ) → n.high ≡ high → n.middle ≡ middle → n ≡ record { high = high; middle = middle; low = n.low }
 whole n high middle one two = rw (← one, ← two) refl
@@ -163,15 +159,13 @@ probing_sent (stage.MiddleSent high middle) k x n gs numbers left c h p is taken
     (probe_next (stage.MiddleSent high middle) (stage.NumberSent (record { high = high; middle = middle; low = n.low })) k x n gs _ left p
     (leaving.core_after (SearchLow n.low) gs numbers tt) tt (whole n high middle p.searched.0 p.searched.1) refl (omega arith))
 probing_sent (stage.NumberSent r) k x n gs numbers left c h p is taken seek =
-    subst (λ d. IsTaken d gs numbers h → IsSentTo Probing (stage.NumberSent r) k true x n gs numbers left d h) (some_is Compare c is) go taken where
-      go : IsTaken Compare gs numbers h → IsSentTo Probing (stage.NumberSent r) k true x n gs numbers left Compare h
-      go t =
-          let same : SameCore gs (row_after Everyone Compare 0 gs numbers) = leaving.core_after Compare gs numbers tt in
-          let asked : value_of r ≡ x.probe = ap value_of (sym p.searched ∙ p.number) ∙ value_sought x.probe in
-          let says : Gives (wants gs) x.probe (is_yes h) = subst (λ q. Gives (wants gs) q (is_yes h)) asked (probe_says gs r h (seek r refl) t.heard) in
-          probe_next (stage.NumberSent r) (stage.Probed r h) k x n gs _ left p same
-          (gives_same (wants gs) (wants (row_after Everyone Compare 0 gs numbers)) x.probe (is_yes h)
-          (λ m. leaving.core_wants gs (row_after Everyone Compare 0 gs numbers) m same) says) p.searched refl (omega arith)
+    subst (λ d. IsTaken d gs numbers h → IsSentTo Probing (stage.NumberSent r) k true x n gs numbers left d h) (some_is Compare c is) (λ t.
+    let same : SameCore gs (row_after Everyone Compare 0 gs numbers) = leaving.core_after Compare gs numbers tt in
+    let asked : value_of r ≡ x.probe = ap value_of (sym p.searched ∙ p.number) ∙ value_sought x.probe in
+    let says : Gives (wants gs) x.probe (is_yes h) = subst (λ q. Gives (wants gs) q (is_yes h)) asked (probe_says gs r h (seek r refl) t.heard) in
+    probe_next (stage.NumberSent r) (stage.Probed r h) k x n gs _ left p same
+    (gives_same (wants gs) (wants (row_after Everyone Compare 0 gs numbers)) x.probe (is_yes h)
+    (λ m. leaving.core_wants gs (row_after Everyone Compare 0 gs numbers) m same) says) p.searched refl (omega arith)) taken
 probing_sent (stage.Probed r h') k x n gs numbers left c h p is taken seek = absurd (cc)
 probing_sent _ k x n gs numbers left c h p is taken seek = absurd p.stage_is
 
@@ -244,11 +238,8 @@ short_kept gs hs n a same short k in_row on active random =
 visit_next : (s t : Stage) (k : Kept) (x : Search) (n : SearchAddress) (gs hs : List Gear) (left : ℕ) → Visits s k n gs left → SameCore gs hs → VisitStage t
     → IsSearched t n → sent_at t ≡ sent_at s + 1 → sent_at s < 4 → (l : ℕ) × (left ≡ suc l) × ((true ≡ true) × Visits t k n hs l)
 visit_next s t k x n gs hs left v same stage searched sent few =
-    let less = visit_less k n v.more left (sent_at s) v.frames few in (
-      less.0,
-      less.1,
-      (refl, visits_on s t k n gs hs left less.0 v same stage searched (subst (λ m. VisitFrames k n v.more (less.0 + m)) (sym sent) less.2)),
-    )
+    let less = visit_less k n v.more left (sent_at s) v.frames few in
+    (less.0, less.1, (refl, visits_on s t k n gs hs left less.0 v same stage searched (subst (λ m. VisitFrames k n v.more (less.0 + m)) (sym sent) less.2)))
 
 given_sent : (r : SearchAddress) (a : ℕ) (k : Kept) (x : Search) (n : SearchAddress) (gs : List Gear) (numbers : List ℕ) (left : ℕ) (h : Answer)
     → Visits (stage.Unnamed r) k n gs left → a < 64 → Has k.reserved (a, value_of r) → Seek gs r
@@ -349,8 +340,7 @@ visiting_sent s k x n gs numbers left c h v is taken seek =
     (leaving.core_after (SearchMiddle n.middle) gs numbers tt) tt (w.searched, refl) refl (omega arith))
     (λ high middle w to by. visit_next (stage.MiddleSent high middle)
     (stage.NumberSent (record { high = high; middle = middle; low = n.low })) k x n gs _ left w
-    (leaving.core_after (SearchLow n.low) gs numbers tt) tt (whole n high middle w.searched.0 w.searched.1) refl (omega arith))
-    (λ r w to by.
+    (leaving.core_after (SearchLow n.low) gs numbers tt) tt (whole n high middle w.searched.0 w.searched.1) refl (omega arith)) (λ r w to by.
     let heard : h ≡ Byte (program_data None) =
     visit_heard gs n r w.more None h w.visited w.searched (by r refl) (to.apart w.ready)
     (λ i there on active enabled random. w.unnamed i there on enabled) to.heard in
@@ -372,14 +362,21 @@ short_left d gs numbers k leaves in_row on had =
     let short = had there (sym same.0 ∙ on) in
     (short.0, same.1 ∙ short.1)
 
+-- it has one, if it is not so that it has none
+pub short_if : (g : Gear) → (g.short ≡ None → ⊥) → HasShort g
+short_if g never = go g.short refl where
+  go : (o : Option ℕ) → g.short ≡ o → HasShort g
+  go (Some a) e = (a, e)
+  go None e = absurd (never e)
+
+pub nobody_wanted : (gs : List Gear) → count_by is_wanted gs ≡ 0 → (m : ℕ) → wants gs m ≡ true → ⊥
+nobody_wanted gs none m has = let some : 0 < count_by is_wanted gs = wanted.count_some gs m has in omega (arith, some, none)
+
 -- if no gear is wanted each gear with power has one
 pub nobody_short : (gs : List Gear) → IsOpened gs → ((m : ℕ) → wants gs m ≡ true → ⊥) → OfPowered gs HasShort
-nobody_short gs ready nobody k in_row on = go (gear_of gs k).short refl where
-  go : (o : Option ℕ) → (gear_of gs k).short ≡ o → HasShort (gear_of gs k)
-  go (Some a) e = (a, e)
-  go None e =
-      absurd (nobody (gear_of gs k).random (wanted.wants_by gs (gear_of gs k).random k in_row
-      (wanted.is_wanted_by (gear_of gs k) on (ready.bare k in_row on e)) refl))
+nobody_short gs ready nobody k in_row on =
+    short_if (gear_of gs k) (λ e. nobody (gear_of gs k).random (wanted.wants_by gs (gear_of gs k).random k in_row
+    (wanted.is_wanted_by (gear_of gs k) on (ready.bare k in_row on e)) refl))
 
 ends_still : (e : End) (k : Kept) (gs : List Gear) (numbers : List ℕ) → EndsWell e k gs → EndsWell e k (row_after Everyone Terminate 0 gs numbers)
 ends_still AllFound k gs numbers well = λ i in_row on. short_left Terminate gs numbers i tt in_row on (well i)
@@ -388,11 +385,8 @@ ends_still _ k gs numbers well = well
 closing_sent : (e : End) (s : Stage) (k : Kept) (opened : Bool) (x : Search) (n : SearchAddress) (gs : List Gear) (numbers : List ℕ) (left : ℕ) (c : Command)
     (h : Answer) → Closes e s k gs left → Sends (Closing e) n k s c → IsSentTo (Closing e) s k opened x n gs numbers left c h
 closing_sent e stage.Free k opened x n gs numbers left c h v is =
-    subst (λ d. IsSentTo (Closing e) stage.Free k opened x n gs numbers left d h) (sym is) go where
-      go : IsSentTo (Closing e) stage.Free k opened x n gs numbers left Terminate h
-      go =
-          let less = one_less 1 left 0 v.frames (omega arith) in
-          (less.0, less.1, record { stage_is = tt; well = ends_still e k gs numbers v.well; frames = less.2 })
+    subst (λ d. IsSentTo (Closing e) stage.Free k opened x n gs numbers left d h) (sym is) (let less = one_less 1 left 0 v.frames (omega arith) in
+    (less.0, less.1, record { stage_is = tt; well = ends_still e k gs numbers v.well; frames = less.2 }))
 closing_sent e stage.Terminated k opened x n gs numbers left c h v is = absurd (cc)
 closing_sent e _ k opened x n gs numbers left c h v is = absurd v.stage_is
 
@@ -400,7 +394,8 @@ closing_sent e _ k opened x n gs numbers left c h v is = absurd v.stage_is
 
 pub at_sent : (p : Purpose) (s : Stage) (k : Kept) (opened : Bool) (x : Search) (n : SearchAddress) (gs : List Gear) (numbers : List ℕ) (left : ℕ) (c : Command)
     (h : Answer) → At p s k opened x n gs left → Sends p n k s c → IsTaken c gs numbers h → Seeks s gs → IsSentTo p s k opened x n gs numbers left c h
-at_sent Opening s k opened x n gs numbers left c h at is taken seek = opening_sent s k opened x n gs numbers left c h at.0 at.1 is taken
+at_sent Opening s k opened x n gs numbers left c h at is taken seek =
+    subst (λ b. IsSentTo Opening s k b x n gs numbers left c h) (sym at.0) (opening_sent s k x n gs numbers left c h at.1 is taken)
 at_sent Probing s k opened x n gs numbers left c h at is taken seek =
     subst (λ b. IsSentTo Probing s k b x n gs numbers left c h) (sym at.0) (probing_sent s k x n gs numbers left c h at.1 is taken seek)
 at_sent Visiting s k opened x n gs numbers left c h at is taken seek =

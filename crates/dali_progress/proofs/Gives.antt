@@ -1,9 +1,8 @@
 use Rattle.dali_progress.proofs.Below.{◌≡◌, ℕ, ◌<◌, ◌≤◌, ◌⊎◌, inl, inr, true, List, ◌++◌, refl, sym, subst, ◌∙◌, length, Option, Some, None, count_by, Answer}
 use Rattle.dali_progress.proofs.Below.{Forward, command_of, Command, Gear, row_after, drawn_of, stored_of, Everyone, Assignment, Has, InBlock, Block, Allowed}
 use Rattle.dali_progress.proofs.Below.{block_at, IsRun, gear_of, is_bare, World, controller_at, Change, Given, Holds, holds_after, sent_changes, after_at}
-use Rattle.dali_progress.proofs.Below.{count_at_most, is_bare_by, bare_is, SiteState, world, records_now}
+use Rattle.dali_progress.proofs.{Below.{count_at_most, is_bare_by, bare_is, SiteState, world, records_now}, Both.has_address, Logged.kept_now}
 use Rattle.dali_events.specs.declared.event.Event.TheVariants as event
-use Rattle.dali_progress.proofs.{Both.has_address, Logged.kept_now}
 
 -- WHO IS GIVEN A SHORT ADDRESS by one controller: gear with power that have none, and each an address of the controller's
 -- block. All others keep theirs.

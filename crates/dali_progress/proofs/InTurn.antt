@@ -1,22 +1,16 @@
 use Rattle.dali_progress.proofs.Below.{◌≡◌, ◌⊎◌, ℕ, ◌+◌, ◌*◌, ◌<◌, ◌≤◌, inl, inr, Bool, true, false, zero, suc, List, [], ◌∷◌, refl, sym, ap, subst, ◌∙◌, arith}
 use Rattle.dali_progress.proofs.Below.{length, length-set, get_or-set_same, Option, Some, None, count_by, Gear, Has, InBlock, Block, Machine, at_first}
-use Rattle.dali_progress.proofs.Below.{AllFound, block_at, Allowed, KeepsAddresses, HasShort, OfPowered, MASK24, gear_of, gear_at, is_bare}
-use Rattle.dali_progress.proofs.Below.{happens, gone_down, come_up, controller_at, nobody, World, Controller, start, Event, machine_in}
-use Rattle.dali_progress.proofs.Below.{machines_at, machines_after, Beginning, BeginsAlone, by_survey, End, Rounds, HasEnded, site_after}
-use Rattle.dali_progress.proofs.Below.{SiteState, world, site_logged, machines, records_now, table_at, IsUnseen, IsAlone, IsSettledAt}
-use Rattle.dali_progress.proofs.Below.{BySurvey, frames, most_frames, bare, bus_silenced, owns, Arbiter, holds_after, if◌then◌else◌}
-use Rattle.std.proofs.lemmas.List.{length-map}
-use Rattle.dali_events.specs.Happens.{owner_told}
-use Rattle.dali_events.specs.{Laws.TablesAgree, Runs.after_all, World.controller_begun}
-use Rattle.dali_world.{proofs.Logs.agreeing_now, specs.Site.machines_all}
+use Rattle.dali_progress.proofs.Below.{AllFound, block_at, Allowed, KeepsAddresses, HasShort, OfPowered, MASK24, gear_of, gear_at, is_bare, happens, gone_down}
+use Rattle.dali_progress.proofs.Below.{come_up, controller_at, nobody, World, Controller, start, Event, machine_in, machines_at, machines_after, Beginning}
+use Rattle.dali_progress.proofs.Below.{BeginsAlone, by_survey, End, Rounds, HasEnded, site_after, SiteState, world, site_logged, machines, records_now}
+use Rattle.dali_progress.proofs.Below.{table_at, IsUnseen, IsAlone, BySurvey, frames, most_frames, bare, bus_silenced, owns, Arbiter, holds_after}
+use Rattle.dali_progress.proofs.{Below.{if◌then◌else◌, IsSettledOn}, Beginnings.{IsAfter, after, bounded, named}, Gives.{Gives, gives_self, gives_then}}
+use Rattle.dali_progress.proofs.{Gives.bare_fewer, Lone.ended_rests, Logged.{world_logged, run_logged, machines_logged, block_now}, Survey.Goes.EndsBy}
+use Rattle.dali_progress.proofs.Survey.{Vacant.{IsOver, over, full_held, fewer_left, planned, IsHeld, held_on}, Stands.SurveyEnds, Woken.{all_short, none_bare}}
+use Rattle.dali_progress.specs.InTurn.{IsStill, Turn, brought, surveyed, left_by, TakesTurn, TakeTurns, after_turns, turn_frames, HasFoundAll, IsOfTurns}
+use Rattle.{dali_progress.specs.InTurn.{HaveVacant, AllAreNamed, AreSettledOn}, std.proofs.lemmas.List.length-map, dali_events.specs.Happens.owner_told}
+use Rattle.{dali_events.specs.{Laws.TablesAgree, Runs.after_all, World.controller_begun}, dali_world.{proofs.Logs.agreeing_now, specs.Site.machines_all}}
 use Rattle.dali_events.specs.declared.event.Event.TheVariants as event
-use Rattle.dali_progress.specs.InTurn.{IsStill, Turn, brought, surveyed, left_by, TakesTurn, TakeTurns, after_turns, turn_frames, HasFoundAll, AreSettled}
-use Rattle.dali_progress.specs.InTurn.{IsOfTurns, HaveVacant, AllAreNamed}
-use Rattle.dali_progress.proofs.{Beginnings.{IsAfter, after, bounded, named}, Gives.{Gives, gives_self, gives_then, bare_fewer}}
-use Rattle.dali_progress.proofs.Lone.{ended_rests}
-use Rattle.dali_progress.proofs.Logged.{world_logged, run_logged, machines_logged}
-use Rattle.dali_progress.proofs.{Logged.block_now, Survey.Goes.EndsBy, Survey.Vacant.{IsOver, over, full_held, fewer_left, planned, IsHeld, held_on}}
-use Rattle.dali_progress.proofs.{Survey.Stands.SurveyEnds, Survey.Woken.{all_short, none_bare}}
 
 -- CONTROLLERS SURVEY ONE AFTER THE OTHER, each alone and undisturbed to its end.
 
@@ -56,8 +50,7 @@ site_count s =
 
 -- ---------------------------------------------------------------- one comes up
 
-pub comes_alone : (s : SiteState) (c : ℕ) (kept : Bool) → IsStill s → Allowed (world s) (event.Up c kept)
-    → IsAlone (site_logged s (event.Up c kept)) c
+pub comes_alone : (s : SiteState) (c : ℕ) (kept : Bool) → IsStill s → Allowed (world s) (event.Up c kept) → IsAlone (site_logged s (event.Up c kept)) c
 comes_alone s c kept still up = record {
   run = run_logged s (event.Up c kept) still.run up (λ d i a n e has. cc);
   up = record {
@@ -94,17 +87,12 @@ abbrev all_shorts : Block
 all_shorts = record { first = 0; last = 63 }
 
 widely : (b : Block) (gs hs : List Gear) → ((a : ℕ) → InBlock b a → a < 64) → Gives b gs hs → Gives all_shorts gs hs
-widely b gs hs small gives = record {
-  count = gives.count;
-  power = gives.power;
-  short = gives.short;
-  number = gives.number;
-  given = λ k a h is. go k a (gives.given k a h is);
-} where
-  go : (k a : ℕ) → ((gear_of gs k).short ≡ Some a) ⊎ (((gear_of gs k).powered ≡ true) × ((gear_of gs k).short ≡ None) × InBlock b a)
-      → ((gear_of gs k).short ≡ Some a) ⊎ (((gear_of gs k).powered ≡ true) × ((gear_of gs k).short ≡ None) × InBlock all_shorts a)
-  go k a (inl had) = inl had
-  go k a (inr new) = let less : a < 64 = small a new.2 in inr (new.0, new.1, (omega arith, omega (arith, less)))
+widely b gs hs small gives =
+    record { count = gives.count; power = gives.power; short = gives.short; number = gives.number; given = λ k a h is. go k a (gives.given k a h is) } where
+      go : (k a : ℕ) → ((gear_of gs k).short ≡ Some a) ⊎ (((gear_of gs k).powered ≡ true) × ((gear_of gs k).short ≡ None) × InBlock b a)
+          → ((gear_of gs k).short ≡ Some a) ⊎ (((gear_of gs k).powered ≡ true) × ((gear_of gs k).short ≡ None) × InBlock all_shorts a)
+      go k a (inl had) = inl had
+      go k a (inr new) = let less : a < 64 = small a new.2 in inr (new.0, new.1, (omega arith, omega (arith, less)))
 
 up_gear : (s : SiteState) (t : Turn) → (world (brought s t)).gear ≡ (world s).gear
 up_gear s t = ap (λ (w : World). w.gear) (world_logged s (event.Up t.controller t.kept))
@@ -121,8 +109,7 @@ turn_over s t still turn = over (brought s t) t.controller t.rounds t.end (begin
 turn_still : (s : SiteState) (t : Turn) → IsStill s → TakesTurn s t → IsStill (left_by s t)
 turn_still s t still turn = record {
   run = run_logged (surveyed s t) (event.Down t.controller) by.run by.up (λ d i a n e has. cc);
-  bus = ap (λ (w : World). w.bus) (world_logged (surveyed s t) (event.Down t.controller)) ∙ ap (λ b. bus_silenced b t.controller) by.rests.0
-      ∙ refl;
+  bus = ap (λ (w : World). w.bus) (world_logged (surveyed s t) (event.Down t.controller)) ∙ ap (λ b. bus_silenced b t.controller) by.rests.0 ∙ refl;
   trace = ap (λ (w : World). w.trace) (world_logged (surveyed s t) (event.Down t.controller))
       ∙ ap (λ (b : Arbiter). if owns b.owner t.controller then [] else (world (surveyed s t)).trace) by.rests.0 ∙ by.rests.1;
 } where
@@ -230,40 +217,40 @@ turns_found s (t ∷ ts) still turns (inl now) =
 turns_found s (t ∷ ts) still turns (inr later) = turns_found (left_by s t) ts (turn_still s t still turns.0) turns.1 later
 
 -- if some gear is left, gear have each address of the blocks
-turn_held : (s : SiteState) (t : Turn) → IsStill s → TakesTurn s t → IsSettledAt (brought s t) t.controller
-    → OfPowered (world (left_by s t)).gear HasShort ⊎ ((a : ℕ) → InBlock (block_at s.plan t.controller) a → IsHeld (world (left_by s t)).gear a)
-turn_held s t still turn settled =
-    elim (full_held (brought s t) t.controller t.rounds t.end (begins s t still turn) settled turn.rounds turn.ended) [
+turn_held : (s : SiteState) (t : Turn) → IsStill s → TakesTurn s t → OfPowered (world (left_by s t)).gear HasShort
+    ⊎ ((a : ℕ) → InBlock (block_at s.plan t.controller) a → IsSettledOn (brought s t) t.controller a → IsHeld (world (left_by s t)).gear a)
+turn_held s t still turn =
+    elim (full_held (brought s t) t.controller t.rounds t.end (begins s t still turn) turn.rounds turn.ended) [
       | inl all ↦ inl (subst (λ gs. OfPowered gs HasShort) (sym (down_gear s t)) all.1)
-      | inr full ↦ inr (λ a has. subst (λ gs. IsHeld gs a) (sym (down_gear s t)) (full.1 a has))
+      | inr full ↦ inr (λ a has settled. subst (λ gs. IsHeld gs a) (sym (down_gear s t)) (full.1 a has settled))
     ]
 
-turns_held : (s : SiteState) (ts : List Turn) (a : ℕ) → IsStill s → TakeTurns s ts → AreSettled s ts → 0 < bare (after_turns s ts) → IsOfTurns s.plan ts a
+turns_held : (s : SiteState) (ts : List Turn) (a : ℕ) → IsStill s → TakeTurns s ts → AreSettledOn s ts a → 0 < bare (after_turns s ts) → IsOfTurns s.plan ts a
     → IsHeld (world (after_turns s ts)).gear a
 turns_held s [] a still turns settled some of = absurd of
-turns_held s (t ∷ ts) a still turns settled some (inl within) = go (turn_held s t still turns.0 settled.0) where
+turns_held s (t ∷ ts) a still turns settled some (inl within) = go (turn_held s t still turns.0) where
   gives : Gives all_shorts (world (left_by s t)).gear (world (after_turns s (t ∷ ts))).gear
   gives = turns_give (left_by s t) ts (turn_still s t still turns.0) turns.1
 
-  go : OfPowered (world (left_by s t)).gear HasShort ⊎ ((b : ℕ) → InBlock (block_at s.plan t.controller) b → IsHeld (world (left_by s t)).gear b)
+  go : OfPowered (world (left_by s t)).gear HasShort
+      ⊎ ((b : ℕ) → InBlock (block_at s.plan t.controller) b → IsSettledOn (brought s t) t.controller b → IsHeld (world (left_by s t)).gear b)
       → IsHeld (world (after_turns s (t ∷ ts))).gear a
   go (inl all) =
       let none : bare (after_turns s (t ∷ ts)) ≡ 0 =
       none_bare (world (after_turns s (t ∷ ts))).gear (powered_on all_shorts (world (left_by s t)).gear (world (after_turns s (t ∷ ts))).gear gives all) in
       absurd (omega (arith, none, some))
-  go (inr held) = held_on all_shorts (world (left_by s t)).gear (world (after_turns s (t ∷ ts))).gear a gives (held a within)
+  go (inr held) = held_on all_shorts (world (left_by s t)).gear (world (after_turns s (t ∷ ts))).gear a gives (held a within settled.0)
 turns_held s (t ∷ ts) a still turns settled some (inr later) =
     turns_held (left_by s t) ts a (turn_still s t still turns.0) turns.1 settled.1 some
     (subst (λ p. IsOfTurns p ts a) (sym (planned (λ p. p ≡ s.plan) t.rounds (brought s t) refl)) later)
 
 -- WITH ADDRESSES ENOUGH in all blocks together, all gear get one
-pub turns_enough : (s : SiteState) (ts : List Turn) → IsStill s → TakeTurns s ts → AreSettled s ts → HaveVacant s ts
-    → OfPowered (world (after_turns s ts)).gear HasShort
-turns_enough s ts still turns settled vacant = all_short (world (after_turns s ts)).gear (none (bare (after_turns s ts)) refl) where
+pub turns_enough : (s : SiteState) (ts : List Turn) → IsStill s → TakeTurns s ts → HaveVacant s ts → OfPowered (world (after_turns s ts)).gear HasShort
+turns_enough s ts still turns vacant = all_short (world (after_turns s ts)).gear (none (bare (after_turns s ts)) refl) where
   fewer : 0 < bare (after_turns s ts) → bare (after_turns s ts) + length vacant.addresses ≤ bare s
   fewer some =
       fewer_left all_shorts (world s).gear (world (after_turns s ts)).gear vacant.addresses (turns_give s ts still turns) vacant.once
-      (λ a has k there short. vacant.vacant a has k (there, short)) (λ a has. turns_held s ts a still turns settled some (vacant.within a has))
+      (λ a has k there short. vacant.vacant a has k (there, short)) (λ a has. turns_held s ts a still turns (vacant.settled a has) some (vacant.within a has))
 
   none : (n : ℕ) → bare (after_turns s ts) ≡ n → bare (after_turns s ts) ≡ 0
   none zero is = is
@@ -274,5 +261,4 @@ turns_enough s ts still turns settled vacant = all_short (world (after_turns s t
 
 -- no two tables contradict each other
 pub turns_agree : (s : SiteState) (ts : List Turn) → IsStill s → TakeTurns s ts → TablesAgree (world (after_turns s ts))
-turns_agree s ts still turns =
-    let t : SiteState = after_turns s ts in agreeing_now t.plan t.queue t.log (turns_still s ts still turns).run
+turns_agree s ts still turns = let t : SiteState = after_turns s ts in agreeing_now t.plan t.queue t.log (turns_still s ts still turns).run

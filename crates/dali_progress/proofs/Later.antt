@@ -1,8 +1,14 @@
 use Rattle.dali_progress.proofs.Below.{◌≡◌, ℕ, refl, sym, ap, ◌∙◌, Some, None, Bool, true, false, Option, ◌==◌, if◌then◌else◌, LATER, short_of, Answer, Silence}
 use Rattle.dali_progress.proofs.Below.{Byte, Damaged, Forward, SearchAddress, MASK, Command, stage_of, named, queried, verified, Put, Stage, Course, turn_of}
-use Rattle.dali_progress.proofs.Below.{Machine, course_on, asked_on, machine_ordered, asked_by, Purpose, Asking, Hunting}
-use Rattle.dali_script.specs.Stages.{answered}
+use Rattle.{dali_progress.proofs.Below.{Machine, course_on, asked_on, machine_ordered, asked_by, Purpose, Asking, Hunting}, dali_script.specs.Stages.answered}
 use Rattle.dali_script.specs.declared.stage.Stage.TheVariants as stage
+
+pub some_same : {A : Type 0} (x y : A) → Some x ≡ Some y → x ≡ y
+some_same x y same = cc
+
+pub asked_none : (opened : Bool) (n : ℕ) → n ≡ 0 → asked_by opened n ≡ 0
+asked_none true n none = refl
+asked_none false n none = none
 
 -- A LATER FRAME LEAVES THE COURSE, but for the next question of a hunt.
 

@@ -28,8 +28,7 @@ Waits w q c m p f =
 
 -- a frame was heard, and c owns the bus, or the bus has no owner
 abbrev pub Heard : World → ℕ → ℕ → Machine → Forward → Answer → Type 0
-Heard w q c m f h =
-    ((w.bus ≡ still q (Some c)) × (w.trace ≡ m.trace ++ entry f h ∷ [])) ⊎ ((w.bus ≡ still q None) × (w.trace ≡ []))
+Heard w q c m f h = ((w.bus ≡ still q (Some c)) × (w.trace ≡ m.trace ++ entry f h ∷ [])) ⊎ ((w.bus ≡ still q None) × (w.trace ≡ []))
 
 -- nothing runs
 abbrev pub Rests : World → ℕ → Type 0

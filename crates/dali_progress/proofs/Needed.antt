@@ -1,12 +1,12 @@
 use Rattle.dali_progress.proofs.Below.{◌≡◌, ℕ, List, [], ◌∷◌, ◌++◌, refl, lit<, Some, None, false, true, sym, ap, subst, ◌∙◌, arith, command_of, frame}
 use Rattle.dali_progress.proofs.Below.{answers_of, Everyone, stage_of, End, Input, Plan, IsPlan, start, controller_at, Event, happens, Allowed, IsDue, HasDraws}
 use Rattle.dali_progress.proofs.Below.{allowed_by, plan_is, leaves_none, machines_at, SiteState, world, site_logged, machines, next_request, Rounds, site_after}
-use Rattle.dali_progress.proofs.Below.{ByStart, BeginsAlone, IsOfRound, HasEnded, Forward, request_of, Request}
+use Rattle.dali_progress.proofs.{Below.{ByStart, BeginsAlone, IsOfRound, HasEnded, Forward, request_of, Request}, Logged.begins_new, Playing.{Plays, rounds_by}}
+use Rattle.dali_progress.proofs.{Playing.{plays_by, BreaksEnd}, Session.{block, opening, searching, compare, ending, given_first, given_initialise}}
+use Rattle.dali_progress.proofs.Session.{given_initialise_again, given_randomise, given_randomise_again, given_high, given_middle, given_low, given_compare}
+use Rattle.dali_progress.proofs.{Session.{given_close, given_done, up_to_draw}, Later.some_same}
 use Rattle.dali_events.specs.declared.event.Event.TheVariants as event
 use Rattle.dali_script.specs.declared.orders.Input.TheVariants as input
-use Rattle.dali_progress.proofs.{Logged.begins_new, Playing.{Plays, rounds_by, plays_by, BreaksEnd}, Session.{block, opening, searching, compare, ending}}
-use Rattle.dali_progress.proofs.Session.{given_first, given_initialise, given_initialise_again, given_randomise, given_randomise_again, given_high}
-use Rattle.dali_progress.proofs.Session.{given_middle, given_low, given_compare, given_close, given_done, up_to_draw}
 
 -- UNDISTURBED MATTERS. Short histories of one controller that starts alone, in which all events but
 -- one are of rounds; it ends with all-found, and a gear that has power has no short address. The gear
@@ -162,9 +162,6 @@ unfolding command_of stage_of
 before_draw =
     plays_by (start numberless 8) (machines_at 0 (block ∷ [])) 0 up_to_draw refl
     (given_first, (given_initialise, (given_initialise_again, (given_randomise, (given_randomise_again, tt)))))
-
-some_same : {A : Type 0} (x y : A) → Some x ≡ Some y → x ≡ y
-some_same x y same = cc
 
 not_due : (i : Input) → IsDue (controller_at (world (site_after spent_site up_to_draw)) 0) i → ⊥
 unfolding command_of stage_of

@@ -2,10 +2,9 @@ use Rattle.dali_progress.proofs.Below.{◌≡◌, ℕ, Bool, true, false, List, 
 use Rattle.dali_progress.proofs.Below.{Forward, command_of, frame, answers_of, heard_of, Everyone, next, Request, AllFound, Input, first_of_both}
 use Rattle.dali_progress.proofs.Below.{second_of_both, equal, Machine, Allowed, happens, World, start, Event, is_allowed, allowed_by, after_more, leaves_none}
 use Rattle.dali_progress.proofs.Below.{MayAnswer, machine_in, machines_at, machines_after, SiteState, world, site_logged, machines, machines_more, IsTrueEnd}
-use Rattle.dali_progress.proofs.Below.{Succeeds, IsOfRound, Rounds, site_after, HasEnded, ByStart, BeginsAlone}
+use Rattle.dali_progress.proofs.{Below.{Succeeds, IsOfRound, Rounds, site_after, HasEnded, ByStart, BeginsAlone}, Beginnings.ends}
 use Rattle.dali_script.specs.declared.orders.Input.TheVariants as input
 use Rattle.dali_events.specs.declared.event.Event.TheVariants as event
-use Rattle.dali_progress.proofs.{Beginnings.ends}
 
 -- WHAT A SHORT HISTORY SHOWS that breaks what is proved of one controller alone.
 
@@ -43,8 +42,7 @@ rounds_by s c (e ∷ es) none plays = (
 -- frame after which nothing is heard.
 abbrev pub Gives : World → List (Option Machine) → ℕ → List Event → Type 0
 Gives w ms c [] = Unit {0}
-Gives w ms c (event.Acted d i o ∷ es) =
-    MayAnswer (machine_in ms c) i o × Gives (happens w (event.Acted d i o)) (machines_after w ms (event.Acted d i o)) c es
+Gives w ms c (event.Acted d i o ∷ es) = MayAnswer (machine_in ms c) i o × Gives (happens w (event.Acted d i o)) (machines_after w ms (event.Acted d i o)) c es
 Gives w ms c (e ∷ es) = Gives (happens w e) (machines_after w ms e) c es
 
 abbrev pub succeeds : Input → Bool

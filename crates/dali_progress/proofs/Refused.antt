@@ -1,24 +1,21 @@
-use Rattle.dali_progress.proofs.Below.{◌≡◌, ℕ, ◌+◌, ◌<◌, ◌≤◌, ◌⊎◌, inl, inr, Bool, true, false, zero, suc, List, [], ◌∷◌, ◌++◌, refl, sym, ap, subst, ◌∙◌}
-use Rattle.dali_progress.proofs.Below.{arith, length, Option, Some, None, if◌then◌else◌, is_some, length_push, count_by-le-length, Gear, total, due_after, Kept}
+use Rattle.dali_progress.proofs.Below.{◌≡◌, ℕ, ◌+◌, ◌<◌, ◌≤◌, ◌⊎◌, inl, inr, Bool, true, false, suc, List, [], ◌∷◌, ◌++◌, refl, sym, ap, subst, ◌∙◌, arith}
+use Rattle.dali_progress.proofs.Below.{length, Option, Some, None, if◌then◌else◌, is_some, length_push, count_by-le-length, Gear, total, due_after, Kept}
 use Rattle.dali_progress.proofs.Below.{InBlock, Block, Due, Input, Order, Put, Commit, Done, Halt, Record, Reserve, Machine, machine_told}
 use Rattle.dali_progress.proofs.Below.{IsGiven as IsOrderGiven, IsDue, IsCommit, Plan, IsPlan, block_at, IsRun, is_bare, World, Controller, controller_at}
 use Rattle.dali_progress.proofs.Below.{Event, start_count, stands, due_of, ReservesUsed, MayAnswer, Refusal, SiteState, world, site_logged, opened_site}
 use Rattle.dali_progress.proofs.Below.{IsBarred, IsActRefused, IsPumpRefused, records_now, Installation, installation_of, HasNoneBy, IsGoRefused, controller}
 use Rattle.dali_progress.proofs.Below.{has_turn, has_turn_by, IsTurn, Turns, IsTurnRefused, IsRoundOf, controllers, Ran, site_after, most_events, Beginning}
 use Rattle.dali_progress.proofs.Below.{Rounds, by_survey, ByStart, BySurvey, bare, BeginsAlone, WasRefused, HasEndedBy, HasBegun, begun, HasNoneUsed}
-use Rattle.dali_progress.proofs.Below.{SparesUsed, SparesUsedOf, HasRoom, RanAlone, HavePower}
+use Rattle.dali_progress.proofs.{Below.{SparesUsed, SparesUsedOf, HasRoom, RanAlone, HavePower, nat_lt, nat_tests}, Beginnings.{IsAfter, after, few_events}}
+use Rattle.dali_progress.proofs.{Beginnings.{never_spent, begins_so, alone_of}, Ended.{stays_alone, came_so, run_ends}, Logged.begins_new, Lone.Moment}
+use Rattle.dali_progress.proofs.{Lone.heard_free, Running.{Comes, comes_both, turn, turns_of, StaysAlone, UpTo, up_to, turn_other, all_played, plan_after}}
+use Rattle.dali_progress.{proofs.{Running.Came, Spared.{Alone.alone_in_peace, Lives.told_block, Peace.unrefused_in_peace}}, specs.Running.HasTurnAlone}
 use Rattle.dali_replay.specs.Installation.{IsGiven, IsGivenBy}
 use Rattle.dali_script.specs.declared.orders.Due.TheVariants as due
 use Rattle.dali_script.specs.declared.orders.Input.TheVariants as input
 use Rattle.dali_events.specs.declared.trouble.Trouble.TheVariants as trouble
 use Rattle.dali_standing.specs.declared.refusal.Refusal.TheVariants as refusal
 use Rattle.dali_replay.specs.declared.rounds.Round.TheVariants as round
-use Rattle.dali_progress.proofs.{Beginnings.{IsAfter, after, few_events, never_spent, begins_so, alone_of}, Ended.{stays_alone, came_so, run_ends}}
-use Rattle.dali_progress.proofs.{Logged.begins_new, Lone.{Moment, heard_free}, Running.{Comes, comes_both, turn, turns_of, StaysAlone, UpTo, up_to, turn_other}}
-use Rattle.dali_progress.proofs.Running.{all_played, plan_after}
-use Rattle.dali_progress.specs.Running.{HasTurnAlone}
-use Rattle.dali_progress.proofs.Below.{nat_lt, nat_tests}
-use Rattle.dali_progress.proofs.{Running.Came, Spared.Alone.alone_in_peace, Spared.Lives.told_block, Spared.Peace.unrefused_in_peace}
 
 -- WHAT MAY BE REFUSED in a run of rounds on an installation with one controller.
 
@@ -169,8 +166,7 @@ module _ (me : ℕ) where
 
   none_used : (s : SiteState) (m : Machine) (i : Input) (o : Order) → m.kept.block ≡ block_at s.plan me → HasNoneUsed s.plan me → IsOrderGiven m i o
       → ReservesUsed s.plan.used o → ⊥
-  none_used s m i (Commit (Reserve a r)) block none given used =
-      none a (subst (λ b. InBlock b a) (told_block m i ∙ block) (within_given m i a r given), used)
+  none_used s m i (Commit (Reserve a r)) block none given used = none a (subst (λ b. InBlock b a) (told_block m i ∙ block) (within_given m i a r given), used)
   none_used s m i _ block none given used = used
 
   -- no address that used gear have is reserved

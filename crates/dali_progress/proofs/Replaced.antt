@@ -5,11 +5,9 @@ use Rattle.dali_progress.proofs.Below.{gear_at, controller_at, Event, Used, IsRe
 use Rattle.dali_progress.proofs.Below.{row_at, start_count, stands, bare_is, same_number, number_same, SiteState, world, opened_site, records_now, table_at}
 use Rattle.dali_progress.proofs.Below.{IsUnseen, IsVacant, HasVacant, HasNew, only, IsServed, IsReplacing, Rounds, BySurvey, IsAlone, IsSettledAt, HasEnded}
 use Rattle.dali_progress.proofs.Below.{site_after, most_frames, bare, BeginsAlone, ByStart, most_events, RanAlone, HasBegun, HasRoom, HasEndedBy, Installation}
-use Rattle.dali_progress.proofs.Below.{installation_of, Ran}
-use Rattle.dali_progress.specs.Replaced.{AreNamed}
-use Rattle.dali_progress.proofs.{Beginnings.{runs_after, named, begins_settled}, Gives.Gives, Survey.Drawn.{count_first, count_nothing}, Survey.Vacant.all_give}
-use Rattle.dali_progress.proofs.{Survey.Vacant.{IsOver, over, enough_found}, Survey.Goes.{began_at, starts, one_now, tabled}, Both.has_address}
-use Rattle.dali_progress.proofs.{Logged.begins_new, Refused.{run_commissions, ran_new, room_new}}
+use Rattle.dali_progress.proofs.{Below.{installation_of, Ran}, Beginnings.{runs_after, named, begins_settled}, Gives.Gives, Survey.Drawn.count_first}
+use Rattle.dali_progress.proofs.Survey.{Drawn.count_nothing, Vacant.{all_give, IsOver, over, enough_found}, Goes.{began_at, starts, one_now, tabled}}
+use Rattle.dali_progress.{proofs.{Both.has_address, Logged.begins_new, Refused.{run_commissions, ran_new, room_new}}, specs.Replaced.AreNamed}
 
 -- A NEW GEAR IS SERVED in a survey, if an address is vacant, and the others keep what they have.
 
@@ -70,12 +68,13 @@ one_counted p (x ∷ gs) g alone = subst (λ n. n ≤ 1) (sym (count_first p x g
 pub one_new : (s : SiteState) (c g a : ℕ) → HasNew s c g a → bare s ≤ 1
 one_new s c g a new = one_counted is_bare (world s).gear g new.alone
 
-only_vacant : (s : SiteState) (c g a : ℕ) → HasNew s c g a → HasVacant s c
-only_vacant s c g a new = record {
+only_vacant : (s : SiteState) (c g a : ℕ) → IsSettledAt s c → HasNew s c g a → HasVacant s c
+only_vacant s c g a settled new = record {
   addresses = a ∷ [];
   once = (λ has. has, tt);
   within = λ b has. subst (InBlock (block_at s.plan c)) (same b has) new.within;
   vacant = λ b has. subst (IsVacant s) (same b has) new.vacant;
+  settled = λ b has r. settled (b, r);
   enough = let one = one_new s c g a new in omega (arith, one);
 } where
   same : (b : ℕ) → Has (a ∷ []) b → a ≡ b
@@ -85,7 +84,7 @@ only_vacant s c g a new = record {
 pub served : (s : SiteState) (c g a : ℕ) (es : List Event) (e : End) → IsAlone s c → IsSettledAt s c → HasNew s c g a → Rounds true s c es
     → HasEnded (site_after s es) c e → IsServed s (site_after s es) c g e
 served s c g a es e alone settled new rounds ended =
-    let found = enough_found s c es e alone settled (only_vacant s c g a new) rounds ended in
+    let found = enough_found s c es e alone (only_vacant s c g a settled new) rounds ended in
     let short : HasShort (gear_of hs g) = found.1 g there on in
     record {
       found = found.0;
@@ -188,8 +187,7 @@ vacant_now s c a begins within unused k (there, short) = go (known.gifts.reserve
   known = holds_after s.plan s.queue s.log begins.0.run
 
   go : IsReservedFor (world s) a (gear_at (world s) k).random ⊎ IsOfUsed s.plan.used (a, (gear_at (world s) k).random) → ⊥
-  go (inr (u, has, is)) =
-      unused (subst (Has (used_shorts s.plan.used)) (ap (λ (x : Assignment). x.0) is) (has_map (λ (x : Used). x.short) s.plan.used u has))
+  go (inr (u, has, is)) = unused (subst (Has (used_shorts s.plan.used)) (ap (λ (x : Assignment). x.0) is) (has_map (λ (x : Used). x.short) s.plan.used u has))
   go (inl (d, there, has)) =
       let records = records_now s.plan s.queue s.log begins.0.run in
       let other : InBlock (block_at s.plan d) a =
@@ -236,8 +234,7 @@ new_site p queue room g a plan one is = record {
 -- A NEW INSTALLATION in which one gear is new: it gets the address
 pub new_served : (limit g a : ℕ) (p : Plan) (between : Installation) (sent : ℕ) (text : List ℕ) (m : Installation) → IsPlan p → p.gear ≤ 128
     → p.blocks ≡ only a ∷ [] → IsReplacing p g a → 0 < length p.draws → 1092 < limit → HasBegun true 0 (installation_of p) between
-    → Ran limit between sent text m
-    → (e : End) × HasEnded m.site 0 e × IsServed (installation_of p).site m.site 0 g e × HoldsShort (world m.site) g a
+    → Ran limit between sent text m → (e : End) × HasEnded m.site 0 e × IsServed (installation_of p).site m.site 0 g e × HoldsShort (world m.site) g a
 new_served limit g a p between sent text m plan few one is draws enough begins ran =
     let done =
     run_served 0 limit g a (installation_of p) between sent text m (ran_new BySurvey limit p (only a) between sent text m plan one begins ran)

@@ -1,13 +1,10 @@
 use Rattle.dali_progress.proofs.Below.{◌≡◌, ℕ, ◌+◌, ◌≤◌, ◌⊎◌, inl, inr, Bool, true, false, zero, suc, List, [], ◌∷◌, ◌++◌, refl, sym, ap, subst, ◌∙◌, arith}
 use Rattle.dali_progress.proofs.Below.{length, Option, Some, None, Ok, if◌then◌else◌, ◌||◌, command_of, answers_of, heard_of, GearSet, Everyone, collision}
-use Rattle.dali_progress.proofs.Below.{due_after, Due, Input, Order, Commit, IsDue, IsCommit, Plan, nobody_at_all, Controller, controller_at, Event}
-use Rattle.dali_progress.proofs.Below.{LeavesWhole, due_of, Report, SiteState, HasActed, Pumps, machine_at, world, site_logged, next_request, Installation}
-use Rattle.dali_progress.proofs.Below.{Goes, HasStepped, controller, has_turn, has_turn_by, IsTurn, Turns, controllers, is_sent, came_of, IsRound, Succeeds}
-use Rattle.dali_progress.proofs.Below.{Rounds, site_after, frames, begun, ◌<◌, nat_lt, nat_tests, get_or-set_other, nobody}
-use Rattle.dali_events.specs.Happens.{controller_acted}
-use Rattle.dali_progress.specs.Running.{HasTurnAlone}
-use Rattle.dali_progress.proofs.Logged.{world_logged}
-use Rattle.dali_replay.specs.Installation.{IsGiven, IsGivenBy}
+use Rattle.dali_progress.proofs.Below.{due_after, Due, Input, Order, Commit, IsDue, IsCommit, nobody_at_all, Controller, controller_at, Event, LeavesWhole}
+use Rattle.dali_progress.proofs.Below.{due_of, Report, SiteState, HasActed, Pumps, machine_at, world, site_logged, next_request, Installation, Goes, HasStepped}
+use Rattle.dali_progress.proofs.Below.{controller, has_turn, has_turn_by, IsTurn, Turns, controllers, is_sent, came_of, IsRound, Succeeds, Rounds, site_after}
+use Rattle.dali_progress.{proofs.{Below.{frames, begun, ◌<◌, nat_lt, nat_tests, get_or-set_other, nobody}, Logged.world_logged}, specs.Running.HasTurnAlone}
+use Rattle.{dali_events.specs.Happens.controller_acted, dali_replay.specs.Installation.{IsGiven, IsGivenBy}}
 use Rattle.dali_script.specs.declared.orders.Due.TheVariants as due
 use Rattle.dali_script.specs.declared.orders.Input.TheVariants as input
 use Rattle.dali_events.specs.declared.event.Event.TheVariants as event

@@ -4,11 +4,10 @@ use Rattle.dali_progress.proofs.Below.{SearchMiddle, SearchLow, Unaddressed, Law
 use Rattle.dali_progress.proofs.Below.{Done, Enrol, Stage, Unnamed, Inconclusive, Spelled, Terminated, Hunted, Free, InitialisedOnce, Initialised}
 use Rattle.dali_progress.proofs.Below.{RandomisedOnce, Opened, HighSent, MiddleSent, NumberSent, Probed, Block, without_records, turn_of, first_of, Machine}
 use Rattle.dali_progress.proofs.Below.{machine_told, at_first, next_course, course_by, most_silent, BeginsWith, IsAllowed, IsAddressing, IsBegun, IsCaused}
-use Rattle.dali_progress.proofs.Below.{IsOrdered, IsFollowed, IsGiven, machine_after, running_close, Purpose, Way, Fresh, Surveying, Event}
-use Rattle.dali_script.specs.declared.stage.Stage.TheVariants.{Withdrawn}
+use Rattle.dali_progress.proofs.{Below.{IsOrdered, IsFollowed, IsGiven, machine_after, running_close, Purpose, Way, Fresh, Surveying, Event}, Later.IsUnasked}
+use Rattle.{dali_progress.proofs.Later.{course_stays, some_same}, dali_script.specs.declared.stage.Stage.TheVariants.Withdrawn}
 use Rattle.dali_script.specs.declared.orders.Input.TheVariants as input
 use Rattle.dali_events.specs.declared.event.Event.TheVariants as event
-use Rattle.dali_progress.proofs.Later.{IsUnasked, course_stays}
 
 -- ORDERS OF A MACHINE, by what a short history has at hand: the other way round from what is read
 -- from an order that was given.
@@ -27,12 +26,8 @@ IsNoCommit (Some (Commit x)) = ⊥
 IsNoCommit _ = Unit {0}
 
 -- a machine that was told an input, at such a stage; it lost no transaction, and no search of it was silent
-pub record IsAt (t : Machine) (s : Stage) : Type 0 where
-  pub stage : stage_of t.trace ≡ s
-  pub plain : IsPlain s
-  pub tries : t.tries ≡ 0
-  pub silent : t.silent ≡ 0
-  pub last : IsNoCommit t.last
+abbrev pub IsAt : Machine → Stage → Type 0
+IsAt t s = (stage_of t.trace ≡ s) × IsPlain s × (t.tries ≡ 0) × (t.silent ≡ 0) × IsNoCommit t.last
 
 plain_unasked : (s : Stage) (p : Purpose) → IsPlain s → IsUnasked s p
 plain_unasked (Hunted r (Some h) left) p plain = absurd plain
@@ -53,22 +48,22 @@ ordered t s o at allowed addressing caused = record {
   allowed = allowed;
   addressing = addressing;
   caused = caused;
-  given_up = λ e. let tries = at.tries in absurd (omega (arith, e, tries));
-  silent = λ e. absurd (never_most t.course.way (sym at.silent ∙ e));
-  unnamed = λ r e. absurd (not_plain s (Unnamed r) at.plain (sym at.stage ∙ e) (λ x. x));
-  found = λ r b e. absurd (not_plain s (Withdrawn r b) at.plain (sym at.stage ∙ e) (λ x. x));
+  given_up = λ e. let tries = at.2 in absurd (omega (arith, e, tries));
+  silent = λ e. absurd (never_most t.course.way (sym at.3 ∙ e));
+  unnamed = λ r e. absurd (not_plain s (Unnamed r) at.1 (sym at.0 ∙ e) (λ x. x));
+  found = λ r b e. absurd (not_plain s (Withdrawn r b) at.1 (sym at.0 ∙ e) (λ x. x));
 }
 
 followed : (t : Machine) (s : Stage) (o : Order) → IsAt t s → ((c : Command) → turn_of t.course.purpose t.course.number s ≡ Some c → o ≡ Put LATER (frame_of c))
     → IsFollowed t o
 followed t s o at turns = record {
-  sent = λ c e. turns c (subst (λ r. turn_of t.course.purpose t.course.number r ≡ Some c) at.stage e);
-  told = λ b n e same. absurd (not_plain s (Spelled b (Some n)) at.plain (sym at.stage ∙ e) (λ x. x));
-  another = λ b n e other. absurd (not_plain s (Spelled b (Some n)) at.plain (sym at.stage ∙ e) (λ x. x));
-  unconfirmed = λ r x e. absurd (not_plain s (Inconclusive r x) at.plain (sym at.stage ∙ e) (λ y. y));
-  enrolled = λ b n e. absurd (no_enrolment t.last b n at.last e);
-  hunted = λ r h left e hunts. absurd (not_plain s (Hunted r (Some h) left) at.plain (sym at.stage ∙ e) (λ x. x));
-  called = λ r h left e calls turn. absurd (not_plain s (Hunted r (Some h) left) at.plain (sym at.stage ∙ e) (λ x. x));
+  sent = λ c e. turns c (subst (λ r. turn_of t.course.purpose t.course.number r ≡ Some c) at.0 e);
+  told = λ b n e same. absurd (not_plain s (Spelled b (Some n)) at.1 (sym at.0 ∙ e) (λ x. x));
+  another = λ b n e other. absurd (not_plain s (Spelled b (Some n)) at.1 (sym at.0 ∙ e) (λ x. x));
+  unconfirmed = λ r x e. absurd (not_plain s (Inconclusive r x) at.1 (sym at.0 ∙ e) (λ y. y));
+  enrolled = λ b n e. absurd (no_enrolment t.last b n at.4 e);
+  hunted = λ r h left e hunts. absurd (not_plain s (Hunted r (Some h) left) at.1 (sym at.0 ∙ e) (λ x. x));
+  called = λ r h left e calls turn. absurd (not_plain s (Hunted r (Some h) left) at.1 (sym at.0 ∙ e) (λ x. x));
 }
 
 -- all inputs but one are answered so
@@ -76,9 +71,6 @@ given : (m : Machine) (i : Input) (o : Order) → (i ≡ input.CommitFailed → 
     → IsFollowed (machine_told m i) o → IsGiven m i o
 given m input.CommitFailed o other answers begins follows = absurd (other refl)
 given m _ o other answers begins follows = record { answered = answers; begins = begins; followed = follows }
-
-some_same : {A : Type 0} (x y : A) → Some x ≡ Some y → x ≡ y
-some_same x y same = cc
 
 none_some : {A : Type 0} (x : A) → None ≡ Some x → ⊥
 none_some x same = cc
@@ -91,7 +83,7 @@ pub later_given : (m : Machine) (i : Input) (s : Stage) (x : Command) → (i ≡
 later_given m i s x other at unclosed turn some lawful addressing =
     given m i (Put LATER (frame_of x)) other (ordered (machine_told m i) s (Put LATER (frame_of x)) at (inr (refl, some, lawful)) addressing
     (subst (λ d. IsCaused (machine_told m i) d (Put LATER (frame_of x)))
-    (sym (course_stays (machine_told m i) s at.stage (plain_unasked s (machine_told m i).course.purpose at.plain)))
+    (sym (course_stays (machine_told m i) s at.0 (plain_unasked s (machine_told m i).course.purpose at.1)))
     (subst (λ e. IsBegun (machine_told m i) e) (sym unclosed) unclosed, inl unclosed))) (λ e. absurd (omega (arith, e)))
     (followed (machine_told m i) s (Put LATER (frame_of x)) at (λ c e. ap (λ y. Put LATER (frame_of y)) (some_same x c (sym turn ∙ e))))
 
@@ -111,7 +103,7 @@ pub done_given : (m : Machine) (i : Input) (e : End) → (i ≡ input.CommitFail
     → running_close (machine_told m i) ≡ Some e → turn_of (machine_told m i).course.purpose (machine_told m i).course.number Terminated ≡ None
     → IsGiven m i (Done e)
 done_given m i e other at closes turn =
-    given m i (Done e) other (ordered (machine_told m i) Terminated (Done e) at tt tt (inr (closes, at.stage)))
+    given m i (Done e) other (ordered (machine_told m i) Terminated (Done e) at tt tt (inr (closes, at.0)))
     tt (followed (machine_told m i) Terminated (Done e) at (λ c e. absurd (none_some c (sym turn ∙ e))))
 
 -- A SHORT SESSION: a controller that hears nothing. It opens, asks whether any gear is at or below
@@ -208,64 +200,61 @@ heard e = cc
 
 pub given_first : IsGiven begun input.Start (Put 3 (frame 0xA1 0))
 unfolding command_of stage_of
-given_first =
-    first_given begun input.Start Free Terminate (λ e. cc) (record { stage = refl; plain = tt; tries = refl; silent = refl; last = tt }) refl refl
-    (refl, inl refl) (Open, tt, refl) (λ g e. cc)
+given_first = first_given begun input.Start Free Terminate (λ e. cc) (refl, tt, refl, refl, tt) refl refl (refl, inl refl) (Open, tt, refl) (λ g e. cc)
 
 pub given_initialise : IsGiven terminating silent (later 0xA5 0xFF)
 unfolding command_of stage_of
 given_initialise =
-    later_given terminating silent Terminated (Initialise Unaddressed) heard (record { stage = refl; plain = tt; tries = refl; silent = refl; last = tt })
+    later_given terminating silent Terminated (Initialise Unaddressed) heard (refl, tt, refl, refl, tt)
     refl refl (λ e. cc) (Open, tt, (refl, tt, refl)) (λ g e. cc)
 
 pub given_initialise_again : IsGiven initialising silent (later 0xA5 0xFF)
 unfolding command_of stage_of
 given_initialise_again =
     later_given initialising silent InitialisedOnce (Initialise Unaddressed) heard
-    (record { stage = refl; plain = tt; tries = refl; silent = refl; last = tt }) refl refl (λ e. cc) (Open, tt, (refl, tt, (refl, tt, refl))) (λ g e. cc)
+    (refl, tt, refl, refl, tt) refl refl (λ e. cc) (Open, tt, (refl, tt, (refl, tt, refl))) (λ g e. cc)
 
 pub given_randomise : IsGiven initialising_again silent (later 0xA7 0)
 unfolding command_of stage_of
 given_randomise =
-    later_given initialising_again silent Initialised Randomise heard (record { stage = refl; plain = tt; tries = refl; silent = refl; last = tt }) refl refl
+    later_given initialising_again silent Initialised Randomise heard (refl, tt, refl, refl, tt) refl refl
     (λ e. cc) (Open, tt, (refl, tt, (refl, tt, (refl, tt, refl)))) (λ g e. cc)
 
 pub given_randomise_again : IsGiven randomising silent (later 0xA7 0)
 unfolding command_of stage_of
 given_randomise_again =
-    later_given randomising silent RandomisedOnce Randomise heard (record { stage = refl; plain = tt; tries = refl; silent = refl; last = tt }) refl refl
+    later_given randomising silent RandomisedOnce Randomise heard (refl, tt, refl, refl, tt) refl refl
     (λ e. cc) (Open, tt, (refl, tt, (refl, tt, (refl, tt, (refl, tt, refl))))) (λ g e. cc)
 
 pub given_high : IsGiven randomising_again silent (Put 3 (frame 0xB1 0xFF))
 unfolding command_of stage_of
-given_high = first_given randomising_again silent Opened (SearchHigh 0xFF) heard (record { stage = refl; plain = tt; tries = refl; silent = refl; last = tt })
+given_high = first_given randomising_again silent Opened (SearchHigh 0xFF) heard (refl, tt, refl, refl, tt)
     refl refl (refl, inl refl) (Probe highest, tt, refl) (λ g e. cc)
 
 pub given_middle : IsGiven searching_high silent (later 0xB3 0xFF)
 unfolding command_of stage_of
 given_middle =
-    later_given searching_high silent (HighSent 0xFF) (SearchMiddle 0xFF) heard (record { stage = refl; plain = tt; tries = refl; silent = refl; last = tt })
+    later_given searching_high silent (HighSent 0xFF) (SearchMiddle 0xFF) heard (refl, tt, refl, refl, tt)
     refl refl (λ e. cc) (Probe highest, tt, (refl, tt, refl)) (λ g e. cc)
 
 pub given_low : IsGiven searching_middle silent (later 0xB5 0xFE)
 unfolding command_of stage_of
 given_low =
     later_given searching_middle silent (MiddleSent 0xFF 0xFF) (SearchLow 0xFE) heard
-    (record { stage = refl; plain = tt; tries = refl; silent = refl; last = tt }) refl refl (λ e. cc) (Probe highest, tt, (refl, tt, (refl, tt, refl)))
-    (λ g e. cc)
+    (refl, tt, refl, refl, tt) refl refl (λ e. cc) (Probe highest, tt, (refl, tt, (refl, tt, refl))) (λ g e. cc)
 
 pub given_compare : IsGiven searching_low silent (later 0xA9 0)
 unfolding command_of stage_of
 given_compare =
-    later_given searching_low silent (NumberSent highest) Compare heard (record { stage = refl; plain = tt; tries = refl; silent = refl; last = tt }) refl refl
+    later_given searching_low silent (NumberSent highest) Compare heard (refl, tt, refl, refl, tt) refl refl
     (λ e. cc) (Probe highest, tt, (refl, tt, (refl, tt, (refl, tt, refl)))) (λ g e. cc)
 
 pub given_close : IsGiven comparing silent (Put 3 (frame 0xA1 0))
 unfolding command_of stage_of
 given_close =
-    first_given comparing silent (Probed highest Silence) Terminate heard (record { stage = refl; plain = tt; tries = refl; silent = refl; last = tt })
+    first_given comparing silent (Probed highest Silence) Terminate heard (refl, tt, refl, refl, tt)
     refl refl (inr (refl, (refl, record { number = highest; stage = refl; last = refl })), inr (refl, refl)) (Close, tt, refl) (λ g e. cc)
 
 pub given_done : IsGiven closing silent (Done AllFound)
 unfolding command_of stage_of
-given_done = done_given closing silent AllFound heard (record { stage = refl; plain = tt; tries = refl; silent = refl; last = tt }) refl refl
+given_done = done_given closing silent AllFound heard (refl, tt, refl, refl, tt) refl refl

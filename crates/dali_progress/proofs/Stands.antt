@@ -95,8 +95,7 @@ pub record IsVisited (n : SearchAddress) (gs : List Gear) (more : ℕ) : Type 0 
 
 -- before its address is programmed: if one is reserved for it, this is the last visit
 abbrev pub VisitFrames : Kept → SearchAddress → ℕ → ℕ → Type 0
-VisitFrames k n more left =
-    (HasRandom k.reserved (value_of n) × (7 + search_frames more ≤ left)) ⊎ (11 + search_frames more ≤ left)
+VisitFrames k n more left = (HasRandom k.reserved (value_of n) × (7 + search_frames more ≤ left)) ⊎ (11 + search_frames more ≤ left)
 
 pub record Visits (s : Stage) (k : Kept) (n : SearchAddress) (gs : List Gear) (left : ℕ) : Type 0 where
   pub stage_is : VisitStage s

@@ -6,15 +6,14 @@ use Rattle.dali_progress.proofs.Below.{High, Middle, Low, Unaddressed, Gear, byt
 use Rattle.dali_progress.proofs.Below.{Assignment, Kept, Has, CALLING, next_stage, Stage, has_map, middle_next, low_next, is_yes, call_turn, sought, turn_of}
 use Rattle.dali_progress.proofs.Below.{marked_at, silent_after, has_short, with_short, without_short, Purpose, Asking, Calling, Drawing, Opening, Shorts}
 use Rattle.dali_progress.proofs.Below.{HasShort, gear_of, is_bare, OfPowered, SameCore, LeavesShort, SeekHigh, SeekMiddle, AreOpening, number_same, same_number}
-use Rattle.dali_progress.proofs.Below.{AreTabled}
+use Rattle.dali_progress.proofs.{Below.AreTabled, Stands.{some_is, Sends}, Frames.{Seeks, value_sought}, Survey.{Drawn.AreNumbered, Queried.{Holds, OneGear}}}
+use Rattle.dali_progress.proofs.Survey.{Queried.{one_gear, Nobody, HasAnswered, asked_gear, holds_on, holds_back, IsAtHand}, Woken.{AreLow, IsByteLow}}
+use Rattle.dali_progress.proofs.Survey.Woken.{bare_after, undrawn_after, undrawn_once, stays_initialised, all_short, called_answer, low_after, leaves_short}
+use Rattle.dali_progress.proofs.{Survey.Woken.{low_sent, nobody_searched}, Tables.{LeavesNames, tabled_left, StandsStill}}
 use Rattle.dali_script.specs.declared.stage.Stage.TheVariants as stage
 use Rattle.dali_events.proofs.Search.Leaving as leaving
 use Rattle.dali_events.proofs.Search.Opened as opening
 use Rattle.dali_progress.proofs.Tables as tables
-use Rattle.dali_progress.proofs.{Stands.{some_is, Sends}, Frames.{Seeks, value_sought}, Survey.Drawn.AreNumbered, Survey.Queried.{Holds, OneGear, one_gear}}
-use Rattle.dali_progress.proofs.{Survey.Queried.{Nobody, HasAnswered, asked_gear, holds_on, holds_back, IsAtHand}, Survey.Woken.{AreLow, IsByteLow, bare_after}}
-use Rattle.dali_progress.proofs.Survey.Woken.{undrawn_after, undrawn_once, stays_initialised, all_short, called_answer, low_after, leaves_short, low_sent}
-use Rattle.dali_progress.proofs.{Survey.Woken.nobody_searched, Tables.{LeavesNames, tabled_left, StandsStill}}
 
 -- A SHORT ADDRESS IS ASKED for its random address, byte by byte: who told what was heard so far, and what is marked.
 
@@ -49,11 +48,16 @@ pub record IsAskedOf (a : ℕ) (s : Stage) (k : Kept) (heard : Shorts) (gs : Lis
   pub clear : IsClearAt s a k heard
 
 -- no search ends in it
+quiet_by : (P : Stage → Type 0) → ((r : SearchAddress) → P (stage.Unanswered r) → ⊥)
+    → ((r : SearchAddress) (o : Option ℕ) → P (stage.Inconclusive r o) → ⊥) → ((r : SearchAddress) (a : ℕ) → P (stage.Withdrawn r a) → ⊥)
+    → (s : Stage) (opened : Bool) (silent : ℕ) → P s → silent_after s opened silent ≡ silent
+quiet_by P one two three (stage.Unanswered r) opened silent at = absurd (one r at)
+quiet_by P one two three (stage.Inconclusive r o) opened silent at = absurd (two r o at)
+quiet_by P one two three (stage.Withdrawn r a) opened silent at = absurd (three r a at)
+quiet_by P one two three _ opened silent at = refl
+
 pub quiet_asked : (a : ℕ) (s : Stage) (gs : List Gear) (opened : Bool) (silent : ℕ) → AskedAt s a gs → silent_after s opened silent ≡ silent
-quiet_asked a (stage.Unanswered r) gs opened silent asked = absurd asked
-quiet_asked a (stage.Inconclusive r other) gs opened silent asked = absurd asked
-quiet_asked a (stage.Withdrawn r b) gs opened silent asked = absurd asked
-quiet_asked a _ gs opened silent asked = refl
+quiet_asked a s gs opened silent asked = quiet_by (λ t. AskedAt t a gs) (λ r no. no) (λ r o no. no) (λ r b no. no) s opened silent asked
 
 -- ---------------------------------------------------------------- marks
 
@@ -112,8 +116,7 @@ told_clear a b n k marks gs g same small told holds number clear c q has = go (n
       absurd (let top : n ≡ MASK24 = same_number n MASK24 mask in omega (arith, below, random, number, top))
 
 abbrev pub AskedWith : ℕ → Stage → Kept → Shorts → List Gear → List ℕ → Command → Answer → Type 0
-AskedWith a s k marks gs numbers c h =
-    IsAskedOf a (next_stage s c h) k (marked_at (next_stage s c h) h marks) (row_after Everyone c 0 gs numbers)
+AskedWith a s k marks gs numbers c h = IsAskedOf a (next_stage s c h) k (marked_at (next_stage s c h) h marks) (row_after Everyone c 0 gs numbers)
 
 first_asked : (a : ℕ) (k : Kept) (marks : Shorts) (gs : List Gear) (numbers : List ℕ) (h : Answer) → IsAskedOf a stage.Free k marks gs → OneGear gs
     → h ≡ heard_of (answers_of Everyone (RandomByte a High) 0 gs) → AskedWith a stage.Free k marks gs numbers (RandomByte a High) h
@@ -226,8 +229,7 @@ woken_at s = s
 
 -- no gear answers only if none is without short address
 abbrev pub IsCalledBy : Answer → ℕ → List Gear → Type 0
-IsCalledBy h left gs =
-    ((is_yes h ≡ false) × (count_by is_bare gs ≡ 0) × (left < 2)) ⊎ ((is_yes h ≡ true) × (0 < count_by is_bare gs) × (left ≡ 1))
+IsCalledBy h left gs = ((is_yes h ≡ false) × (count_by is_bare gs ≡ 0) × (left < 2)) ⊎ ((is_yes h ≡ true) × (0 < count_by is_bare gs) × (left ≡ 1))
 
 abbrev pub CallStage : Stage → SearchAddress → List Gear → Type 0
 CallStage stage.Free n gs = Unit {0}
@@ -264,10 +266,7 @@ pub record IsRollCall (s : Stage) (n : SearchAddress) (gs : List Gear) : Type 0 
 
 -- no search ends in it
 pub quiet_roll : (s : Stage) (n : SearchAddress) (gs : List Gear) (opened : Bool) (silent : ℕ) → IsRollCall s n gs → silent_after s opened silent ≡ silent
-quiet_roll (stage.Unanswered r) n gs opened silent v = absurd v.stage_is
-quiet_roll (stage.Inconclusive r other) n gs opened silent v = absurd v.stage_is
-quiet_roll (stage.Withdrawn r a) n gs opened silent v = absurd v.stage_is
-quiet_roll _ n gs opened silent v = refl
+quiet_roll s n gs opened silent v = quiet_by (λ t. CallStage t n gs) (λ r no. no) (λ r o no. no) (λ r b no. no) s opened silent v.stage_is
 
 pub called_short : (h : Answer) (left : ℕ) (gs : List Gear) → IsCalledBy h left gs → is_yes h ≡ false → OfPowered gs HasShort
 called_short h left gs (inl none) silent = all_short gs none.1
@@ -327,14 +326,8 @@ pub record IsDraw (p : Purpose) (s : Stage) (n : SearchAddress) (gs : List Gear)
 
 pub quiet_draw : (p : Purpose) (s : Stage) (n : SearchAddress) (gs : List Gear) (opened : Bool) (silent : ℕ) → IsDraws p → IsDraw p s n gs
     → silent_after s opened silent ≡ silent
-quiet_draw Opening (stage.Unanswered r) n gs opened silent is v = absurd v.stage_is
-quiet_draw Opening (stage.Inconclusive r other) n gs opened silent is v = absurd v.stage_is
-quiet_draw Opening (stage.Withdrawn r a) n gs opened silent is v = absurd v.stage_is
-quiet_draw Drawing (stage.Unanswered r) n gs opened silent is v = absurd v.stage_is
-quiet_draw Drawing (stage.Inconclusive r other) n gs opened silent is v = absurd v.stage_is
-quiet_draw Drawing (stage.Withdrawn r a) n gs opened silent is v = absurd v.stage_is
-quiet_draw Opening _ n gs opened silent is v = refl
-quiet_draw Drawing _ n gs opened silent is v = refl
+quiet_draw Opening s n gs opened silent is v = quiet_by (λ t. DrawStage Opening t n gs) (λ r no. no) (λ r o no. no) (λ r b no. no) s opened silent v.stage_is
+quiet_draw Drawing s n gs opened silent is v = quiet_by (λ t. DrawStage Drawing t n gs) (λ r no. no) (λ r o no. no) (λ r b no. no) s opened silent v.stage_is
 quiet_draw _ s n gs opened silent is v = absurd is
 
 -- ---------------------------------------------------------------- what is known when a frame is sent
@@ -572,8 +565,7 @@ draw_sent (stage.WokenHigh high) n k gs numbers d h v is t =
     subst (λ e. DrawSent Drawing (stage.WokenHigh high) n gs numbers e h) (some_is (SearchMiddle n.middle) d is)
     (draw_on Drawing (stage.WokenHigh high) (stage.WokenMiddle high n.middle) n gs numbers (SearchMiddle n.middle) v (inl tt) tt
     (v.stage_is.0, refl, leaving.seek_middle gs numbers high n.middle v.stage_is.1)
-    (undrawn_after (SearchMiddle n.middle) gs numbers tt v.drawn.0, v.drawn.1) (stays_initialised (SearchMiddle n.middle) gs numbers tt v.gear)
-    (λ e. refl))
+    (undrawn_after (SearchMiddle n.middle) gs numbers tt v.drawn.0, v.drawn.1) (stays_initialised (SearchMiddle n.middle) gs numbers tt v.gear) (λ e. refl))
 draw_sent (stage.WokenMiddle high middle) n k gs numbers d h v is t =
     subst (λ e. IsTakenBut e gs numbers h → DrawSent Drawing (stage.WokenMiddle high middle) n gs numbers e h) (some_is Compare d is)
     (λ now. go (now.heard (λ e. (let never : Compare ≡ QueryShort = e in cc)) ∙ silent)) t

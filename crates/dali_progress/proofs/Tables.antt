@@ -162,13 +162,11 @@ visiting_tabled : (before : List Gear) (s : Stage) (k : Kept) (n : SearchAddress
     → AreTabled before (to_come s n k.enrolled) gs → IsTabledTo before s n k.enrolled gs numbers c h
 visiting_tabled before s k n gs numbers left rest c h v is seek next tabled =
     visit_by (λ t d. VisitsAt t k n gs left → Seeks t gs → VisitsAt (next_stage t d h) k n (row_after Everyone d 0 gs numbers) rest
-    → AreTabled before (to_come t n k.enrolled) gs
-    → IsTabledTo before t n k.enrolled gs numbers d h) n k gs left
+    → AreTabled before (to_come t n k.enrolled) gs → IsTabledTo before t n k.enrolled gs numbers d h) n k gs left
     (λ w by on was. left_to before stage.Free n k.enrolled gs numbers _ (SearchHigh n.high) h refl tt was)
     (λ high w by on was. left_to before (stage.HighSent high) n k.enrolled gs numbers _ (SearchMiddle n.middle) h refl tt was)
     (λ high middle w by on was. left_to before (stage.MiddleSent high middle) n k.enrolled gs numbers _ (SearchLow n.low) h refl tt was)
-    (λ r w by on was. left_to before (stage.NumberSent r) n k.enrolled gs numbers _ QueryShort h refl tt was)
-    (λ r a small has w by on was. subst
+    (λ r w by on was. left_to before (stage.NumberSent r) n k.enrolled gs numbers _ QueryShort h refl tt was) (λ r a small has w by on was. subst
     (λ (m : SearchAddress). AreTabled before ((a, value_of m) ∷ k.enrolled) (row_after Everyone (Program (Some a)) 0 gs numbers))
     (sym w.searched) (tabled_given before k.enrolled gs numbers r a (by r refl) was))
     (λ r a w by on was. subst (λ q. AreTabled before (to_come q n k.enrolled) (row_after Everyone QueryShort 0 gs numbers))

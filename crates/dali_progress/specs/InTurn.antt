@@ -13,7 +13,7 @@ use Rattle.dali_events.specs.Runs.{IsRun}
 use Rattle.dali_events.specs.Wanted.{OfPowered}
 use Rattle.dali_world.specs.Site.{SiteState, world, site_logged}
 use Rattle.dali_progress.specs.Replaced.{IsVacant}
-use Rattle.dali_progress.specs.Rounds.{Rounds, site_after, frames, bare, HasEnded, IsSettledAt}
+use Rattle.dali_progress.specs.Rounds.{Rounds, site_after, frames, bare, HasEnded, IsSettledOn}
 
 -- ONE CONTROLLER AFTER THE OTHER.
 
@@ -64,12 +64,14 @@ abbrev pub HasFoundAll : List Turn → Type 0
 HasFoundAll [] = ⊥
 HasFoundAll (t ∷ ts) = (t.end ≡ AllFound) ⊎ HasFoundAll ts
 
--- each controller begins with settled records
-abbrev pub AreSettled : SiteState → List Turn → Type 0
-AreSettled s [] = Unit {0}
-AreSettled s (t ∷ ts) = IsSettledAt (brought s t) t.controller × AreSettled (left_by s t) ts
+-- what each controller has reserved of a short address is enrolled, once it comes up
+abbrev pub AreSettledOn : SiteState → List Turn → ℕ → Type 0
+AreSettledOn s [] a = Unit {0}
+AreSettledOn s (t ∷ ts) a =
+    IsSettledOn (brought s t) t.controller a × AreSettledOn (left_by s t) ts a
 
--- ADDRESSES ENOUGH: so many of their blocks are vacant as gear have power and no short address.
+-- ADDRESSES ENOUGH: so many of their blocks are vacant, and not reserved for a gear that is gone,
+-- as gear have power and no short address.
 abbrev pub IsOfTurns : Plan → List Turn → ℕ → Type 0
 IsOfTurns p [] a = ⊥
 IsOfTurns p (t ∷ ts) a = InBlock (block_at p t.controller) a ⊎ IsOfTurns p ts a
@@ -79,6 +81,7 @@ pub record HaveVacant (s : SiteState) (ts : List Turn) : Type 0 where
   pub once : IsOnce addresses
   pub within : (a : ℕ) → Has addresses a → IsOfTurns s.plan ts a
   pub vacant : (a : ℕ) → Has addresses a → IsVacant s a
+  pub settled : (a : ℕ) → Has addresses a → AreSettledOn s ts a
   pub enough : bare s ≤ length addresses
 
 -- A TABLE NAMES each gear with power that has a short address and a number that gear draw.

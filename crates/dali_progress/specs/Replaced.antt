@@ -9,7 +9,7 @@ use Rattle.dali_events.specs.Promise.{HoldsShort}
 use Rattle.dali_events.specs.Wanted.{is_bare}
 use Rattle.dali_events.specs.World.{gear_at}
 use Rattle.dali_world.specs.Site.{SiteState, world}
-use Rattle.dali_progress.specs.Rounds.{bare}
+use Rattle.dali_progress.specs.Rounds.{bare, IsSettledOn}
 use Rattle.dali_progress.specs.Ends.{table_at, IsUnseen}
 
 -- VACANT ADDRESSES, and one gear that is new on a site, say in the place of one that is gone.
@@ -18,13 +18,14 @@ use Rattle.dali_progress.specs.Ends.{table_at, IsUnseen}
 abbrev pub IsVacant : SiteState → ℕ → Type 0
 IsVacant s a = (k : ℕ) → HoldsShort (world s) k a → ⊥
 
--- ADDRESSES ENOUGH: so many of the controller's block are vacant as gear have power and no short
--- address.
+-- ADDRESSES ENOUGH: so many of the controller's block are vacant, and not reserved for a gear
+-- that is gone, as gear have power and no short address.
 pub record HasVacant (s : SiteState) (c : ℕ) : Type 0 where
   pub addresses : List ℕ
   pub once : IsOnce addresses
   pub within : (a : ℕ) → Has addresses a → InBlock (block_at s.plan c) a
   pub vacant : (a : ℕ) → Has addresses a → IsVacant s a
+  pub settled : (a : ℕ) → Has addresses a → IsSettledOn s c a
   pub enough : bare s ≤ length addresses
 
 -- ONE IS NEW. Of the gear that have power, g alone has no short address; and an address of the

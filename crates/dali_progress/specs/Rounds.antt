@@ -55,6 +55,12 @@ IsSettled k = (x : Assignment) → Has k.reserved x → Has k.enrolled x
 abbrev pub IsSettledAt : SiteState → ℕ → Type 0
 IsSettledAt s c = IsSettled (controller_at (world s) c).records
 
+-- or those of one short address
+abbrev pub IsSettledOn : SiteState → ℕ → ℕ → Type 0
+IsSettledOn s c a =
+    (n : ℕ) → Has (controller_at (world s) c).records.reserved (a, n)
+    → Has (controller_at (world s) c).records.enrolled (a, n)
+
 -- IT BEGINS ALONE, in one of the two ways
 abbrev pub BeginsAlone : Beginning → SiteState → ℕ → Type 0
 BeginsAlone ByStart s c = IsAlone s c × KeepsNothing (controller_at (world s) c).records

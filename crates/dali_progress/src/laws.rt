@@ -55,7 +55,7 @@ ghost use Rattle.dali_events.specs.Laws.{TablesAgree};
 ghost use Rattle.dali_events.specs.declared.event.Event.TheVariants.{Up};
 ghost use Rattle.dali_world.specs.Site.{site_logged};
 ghost use Rattle.dali_progress.specs.InTurn.{IsStill, Turn, TakesTurn, TakeTurns, left_by, after_turns, turn_frames};
-ghost use Rattle.dali_progress.specs.InTurn.{HasFoundAll, AreSettled, HaveVacant, AllAreNamed};
+ghost use Rattle.dali_progress.specs.InTurn.{HasFoundAll, HaveVacant, AllAreNamed};
 ghost use Rattle.dali_progress.specs.Running.{RanAlone, HasBegun, begun, SparesUsedOf, HasRoom, HasEndedBy, WasRefused};
 ghost use Rattle.dali_progress.specs.Surveyed.{Step, IsCourse, ArePlain, WasHeard, IsAccounted, HasSurveyed};
 ghost use Rattle.dali_progress.specs.Surveyed.{stage_told};
@@ -124,15 +124,16 @@ pub fn it_goes_on()
 /// a short address, with its random address, by any controller; but one that had it before the survey, and then had no
 /// power or no number that gear draw.
 ///
-/// If its records were settled, they are settled at the end. And if then so many addresses of its block are
-/// vacant as gear have power and no short address, it ends with all-found (`enough`).
+/// If its records were settled, they are settled at the end. And whatever its records: if so many addresses of its
+/// block are vacant, and not reserved but as they are enrolled, as gear have power and no short address, it ends with
+/// all-found (`enough`).
 ///
 /// So one survey that nothing disturbs says all this at its end. If it committed nothing, the earlier table already
 /// named them (`quiet`). That three runs in a row be quiet is asked if the bus may lose answers.
 pub fn its_end_is_true()
     ensures done { (b : Beginning) (s : SiteState) (c : ℕ) (es : List Event) (e : End) → BeginsAlone b s c
         → Rounds (by_survey b) s c es → HasEnded (site_after s es) c e → IsTrueEnd b s (site_after s es) c e }
-    ensures enough { (s : SiteState) (c : ℕ) (es : List Event) (e : End) → BeginsAlone BySurvey s c → IsSettledAt s c
+    ensures enough { (s : SiteState) (c : ℕ) (es : List Event) (e : End) → BeginsAlone BySurvey s c
         → HasVacant s c → Rounds true s c es → HasEnded (site_after s es) c e
         → (e ≡ AllFound) × OfPowered (world (site_after s es)).gear HasShort }
     ensures table { (b : Beginning) (s : SiteState) (c : ℕ) (es : List Event) (e : End) → BeginsAlone b s c
@@ -256,8 +257,8 @@ pub fn a_replaced_gear_gets_the_address()
 ///
 /// With n gear that have power and no short address they send at most 106 n + 258 frames each (`frames`). Gear keep
 /// their addresses (`keeps`). Once one ended with all-found, every gear with power has a short address (`found`). So
-/// it is after the last turn, if as many addresses of their blocks are vacant together as gear have power and no short
-/// address, and each begins with settled records (`enough`).
+/// it is after the last turn, whatever their records: if as many addresses of their blocks are vacant together, and
+/// not reserved but as they are enrolled when a turn begins, as gear have power and no short address (`enough`).
 ///
 /// The table of the controller that ended last names each gear with power that has a short address and a number that
 /// gear draw (`named`). No two tables name one gear under two addresses, or two gear under one (`agree`).
@@ -273,7 +274,7 @@ pub fn controllers_survey_in_turn()
         → KeepsAddresses (world s) (world (after_turns s ts)) }
     ensures found { (s : SiteState) (ts : List Turn) → IsStill s → TakeTurns s ts → HasFoundAll ts
         → OfPowered (world (after_turns s ts)).gear HasShort }
-    ensures enough { (s : SiteState) (ts : List Turn) → IsStill s → TakeTurns s ts → AreSettled s ts
+    ensures enough { (s : SiteState) (ts : List Turn) → IsStill s → TakeTurns s ts
         → HaveVacant s ts → OfPowered (world (after_turns s ts)).gear HasShort }
     ensures named { (s : SiteState) (t : Turn) → IsStill s → TakesTurn s t
         → AllAreNamed (table_at (left_by s t) t.controller) (world (left_by s t)).gear }

@@ -4,10 +4,10 @@ use Rattle.dali_progress.proofs.Below.{SearchAddress, command_of, Command, Rando
 use Rattle.dali_progress.proofs.Below.{number_heard, End, Fault, Order, Put, Commit, Done, Halt, Record, Stage, stage_more, stage_none, Course, Machine}
 use Rattle.dali_progress.proofs.Below.{machine_heard, asked_at, asked_after_silence, next_course, begins_at, goes_on_to, asked_once, course_on, IsAllowed}
 use Rattle.dali_progress.proofs.Below.{machine_ordered, asked_by, MayCommit, IsWhole, IsSending, Pending, Sends, Resolving, Asking, Surveying}
+use Rattle.dali_progress.proofs.Census.Left.{waits, at_stage, of_purpose, of_last, beyond, left, granted, beyond_less, beyond_most, granted_more, waits_least}
+use Rattle.dali_progress.proofs.{Census.Left.{of_purpose_most, goes_moves, Further, Moves}, Later.{IsUnasked, course_stays, some_same}}
 use Rattle.dali_controller.specs.Whole.{Knows}
 use Rattle.dali_script.specs.declared.stage.Stage.TheVariants as stage
-use Rattle.dali_progress.proofs.Census.Left.{waits, at_stage, of_purpose, of_last, beyond, left, granted, beyond_less, beyond_most, granted_more, waits_least}
-use Rattle.dali_progress.proofs.{Census.Left.{of_purpose_most, goes_moves, Further, Moves}, Later.{IsUnasked, course_stays}}
 
 -- A CENSUS IS BOUNDED: what each order leaves once a frame of it was heard.
 
@@ -91,9 +91,6 @@ Asks a s c =
     ((s ≡ stage.Free) × (c ≡ RandomByte a High)) ⊎ (((b : ℕ) × (x : ℕ) × (s ≡ stage.HighAsked b (Some x)) × (c ≡ RandomByte b Middle) × (b ≡ a))
     ⊎ ((b : ℕ) × (x : ℕ × ℕ) × (s ≡ stage.MiddleAsked b (Some x)) × (c ≡ RandomByte b Low) × (b ≡ a)))
 
-some_same : {A : Type 0} (x y : A) → Some x ≡ Some y → x ≡ y
-some_same x y same = cc
-
 same_asked : (a b : ℕ) → (Asking a ≡ Resolving b) ⊎ (Asking a ≡ Asking b) → b ≡ a
 same_asked a b (inl e) = absurd (cc)
 same_asked a b (inr e) = cc
@@ -156,8 +153,7 @@ first_left u t a k h one surveys purpose unopened at asked steady =
         begins = ap (begins_at t) at
 
         go : (b : Bool) → (t.asked == 0) ≡ b → OneLess u t (machine_ordered t (Put FIRST f)) (waits u k)
-        go true is =
-            one_moved u t (machine_ordered t (Put FIRST f)) (goes_on_to t) (waits u k) least (begins ∙ ap (asked_once t) is) (goes_moves t surveys)
+        go true is = one_moved u t (machine_ordered t (Put FIRST f)) (goes_on_to t) (waits u k) least (begins ∙ ap (asked_once t) is) (goes_moves t surveys)
         go false is =
             let on : next_course t ≡ t.course = begins ∙ ap (asked_once t) is in
             let again : of_last u (machine_ordered t (Put FIRST f)) (Some (Put FIRST f)) ≡ waits u t.asked = rw (on, purpose, stage_none, unopened) refl in
@@ -195,8 +191,7 @@ over_left u t a r s one surveys purpose at unasked over more =
       rest n is none = one_still u t n r is (rw (same_left u t n is surveys, none) (omega (arith, one)))
 
       first : (f : Forward) → IsWhole (machine_ordered t (Put FIRST f)) → OneLess u t (machine_ordered t (Put FIRST f)) r
-      first f whole =
-          one_moved u t (machine_ordered t (Put FIRST f)) (goes_on_to t) r one (ap (begins_at t) at ∙ over) (goes_moves t surveys)
+      first f whole = one_moved u t (machine_ordered t (Put FIRST f)) (goes_on_to t) r one (ap (begins_at t) at ∙ over) (goes_moves t surveys)
 
       later : (f : Forward) → (t.trace ≡ [] → ⊥) → IsWhole (machine_ordered t (Put LATER f)) → OneLess u t (machine_ordered t (Put LATER f)) r
       later f running whole =

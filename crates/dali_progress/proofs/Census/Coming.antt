@@ -8,12 +8,12 @@ use Rattle.dali_progress.proofs.Below.{at_first, machine_told, machine_heard, ma
 use Rattle.dali_progress.proofs.Below.{begins_at, goes_on_to, at_rest, asked_once, course_by, course_on, IsGiven, IsAllowed, MayCommit, machine_after}
 use Rattle.dali_progress.proofs.Below.{machine_ordered, asked_by, IsWhole, IsReady, IsSending, Pending, Sends, Purpose, Asking, Surveying, found_number}
 use Rattle.dali_progress.proofs.Below.{unwarranted, IsSurveyed, BeginsBySurvey, AreWhole, Step, IsTaken, IsCourse, IsPlain, ArePlain, stage_told}
+use Rattle.dali_progress.proofs.{Accounted.{unreserved, told_keeps}, Census.{Asked.{by_order, Asks, asks_of, self, sending_of, by_kind}, Course.IsAlone}}
+use Rattle.dali_progress.proofs.{Census.Course.{alone_after, put_is, commit_is, started, runs_after}, Later.{IsUnasked, asking_unasked, stays_at, some_same}}
 use Rattle.dali_controller.specs.Whole.{Knows}
 use Rattle.dali_script.specs.declared.orders.Fault.TheVariants as fault
 use Rattle.dali_script.specs.declared.orders.Input.TheVariants as input
 use Rattle.dali_script.specs.declared.stage.Stage.TheVariants as stage
-use Rattle.dali_progress.proofs.{Accounted.{unreserved, told_keeps}, Census.Asked.{by_order, Asks, asks_of, self, sending_of, by_kind}, Census.Course.IsAlone}
-use Rattle.dali_progress.proofs.{Census.Course.{alone_after, put_is, commit_is, started, runs_after}, Later.{IsUnasked, asking_unasked, stays_at}}
 
 -- WHAT A CENSUS SEES of a short address: until it was asked, or the table names it, it is still to come.
 
@@ -114,8 +114,7 @@ pub record Hearing (m t : Machine) (b : ℕ) (h : Answer) : Type 0 where
   pub finding : finding_of t.trace ≡ finding_at (stage_of t.trace)
   pub at : ((stage_of t.trace ≡ stage.HighAsked b (byte_heard h)) × (t.asked ≡ asked_at (stage.HighAsked b (byte_heard h)) h m.asked))
       ⊎ (((y : Option (ℕ × ℕ)) × (stage_of t.trace ≡ stage.MiddleAsked b y)) ⊎ ((y : Option ℕ) × (stage_of t.trace ≡ stage.Spelled b y)))
-  pub clean : (v : ℕ) → h ≡ Byte v
-      → (stage_of t.trace ≡ stage.HighAsked b (Some v))
+  pub clean : (v : ℕ) → h ≡ Byte v → (stage_of t.trace ≡ stage.HighAsked b (Some v))
       ⊎ (((y : ℕ × ℕ) × (stage_of t.trace ≡ stage.MiddleAsked b (Some y))) ⊎ ((r : ℕ) × (stage_of t.trace ≡ stage.Spelled b (Some r))))
 
 pub record Counting (m : Machine) (b : ℕ) : Type 0 where
@@ -267,9 +266,6 @@ hears_no_mask m t b h c r hears may = go hears.at where
 free_no_mask : (t : Machine) (c r : ℕ) → t.trace ≡ [] → MayCommit t (Reserve c r) → ⊥
 free_no_mask t c r free may = no_reservation t stage.Free c r (ap stage_of free ∙ stage_none) (λ n e. cc) may
 
-commit_same : (o : Order) (x : Record) → Some o ≡ Some (Commit x) → o ≡ Commit x
-commit_same o x e = cc
-
 -- while a short address is asked nothing is reserved
 pub unreserved_on : (m : Machine) (i : Input) (b c r : ℕ) → (m.last ≡ None → ⊥) → accepts (due_after m.last) i ≡ true → IsGiven m i (Commit (Reserve c r))
     → IsWhole m → IsAlone m → (machine_told m i).course.purpose ≡ Asking b → ⊥
@@ -281,8 +277,7 @@ unreserved_on m (input.Heard h) b c r running due given whole alone purpose =
     let asks : m.course.purpose ≡ Asking b = ap (λ (t : Machine). t.course.purpose) (sym told) ∙ purpose in
     hears_no_mask m (machine_heard m (Some put.1) h) b h c r (hearing_of m h put.0 put.1 b asks put.2 whole)
     (subst (λ t. MayCommit t (Reserve c r)) told given.answered.allowed)
-unreserved_on m input.Destroyed b c r running due given whole alone purpose =
-    free_no_mask (machine_told m input.Destroyed) c r refl given.answered.allowed
+unreserved_on m input.Destroyed b c r running due given whole alone purpose = free_no_mask (machine_told m input.Destroyed) c r refl given.answered.allowed
 unreserved_on m input.Lapsed b c r running due given whole alone purpose = free_no_mask (machine_told m input.Lapsed) c r refl given.answered.allowed
 unreserved_on m input.Committed b c r running due given whole alone purpose =
     let kept = commit_is m.last due in
@@ -293,14 +288,13 @@ unreserved_on m input.CommitFailed b c r running due given whole alone purpose =
 unreserving_after : (m : Machine) (i : Input) (o : Order) → (m.last ≡ None → ⊥) → accepts (due_after m.last) i ≡ true → IsGiven m i o → IsWhole m → IsAlone m
     → (b : ℕ) → (machine_after m i o).course.purpose ≡ Asking b → (c r : ℕ) → (machine_after m i o).last ≡ Some (Commit (Reserve c r)) → ⊥
 unreserving_after m i o running due given whole alone b purpose c r last =
-    let is : o ≡ Commit (Reserve c r) = commit_same o (Reserve c r) last in
+    let is : o ≡ Commit (Reserve c r) = some_same o (Commit (Reserve c r)) last in
     unreserved_on m i b c r running due (subst (λ q. IsGiven m i q) is given) whole alone
     (subst (λ q. (machine_after m i q).course.purpose ≡ Asking b) is purpose)
 
 -- a short address that is to come, after one more step: its question was heard, or it is still to come
 abbrev ComesNext : Machine → Input → Order → ℕ → ℕ → Type 0
-ComesNext m i o a b =
-    ((h : Answer) × (i ≡ input.Heard h) × (b ≡ a)) ⊎ (IsSeen (machine_after m i o) a)
+ComesNext m i o a b = ((h : Answer) × (i ≡ input.Heard h) × (b ≡ a)) ⊎ (IsSeen (machine_after m i o) a)
 
 begins_by_stage : (t : Machine) (b : ℕ) (h : Answer) (m : Machine) → Hearing m t b h → StaysOrGoes t
 begins_by_stage t b h m hears = go hears.at where
@@ -323,8 +317,7 @@ heard_next : (m : Machine) (h : Answer) (o : Order) (a b p : ℕ) (f : Forward) 
     → ComesNext m (input.Heard h) o a b
 heard_next m h o a b p f small purpose last given whole (inr (here, none)) = inl (h, refl, here)
 heard_next m h o a b p f small purpose last given whole (inl low) =
-    inr (subst (λ t. IsSeen (machine_ordered t o) a) (sym told)
-    (ahead (machine_heard m (Some f) h) a b small purpose counts.way hears.opened low
+    inr (subst (λ t. IsSeen (machine_ordered t o) a) (sym told) (ahead (machine_heard m (Some f) h) a b small purpose counts.way hears.opened low
     (asking_unasked (stage_of (machine_heard m (Some f) h).trace) m.course.purpose b purpose)
     (begins_by_stage (machine_heard m (Some f) h) b h m hears) o (subst (λ t. IsAllowed t o) told given.answered.allowed))) where
       told : machine_told m (input.Heard h) ≡ machine_heard m (Some f) h
@@ -388,10 +381,8 @@ kept_next m x o a b small purpose last whole free unreserved may (inl low) =
 comes_next : (m : Machine) (i : Input) (o : Order) (a b : ℕ) → a < 64 → (m.last ≡ None → ⊥) → m.course.purpose ≡ Asking b → accepts (due_after m.last) i ≡ true
     → IsGiven m i o → IsWhole m → IsAlone m → IsWhole (machine_after m i o) → ((c r : ℕ) → m.last ≡ Some (Commit (Reserve c r)) → ⊥)
     → ((m.course.from ≤ a) ⊎ ((b ≡ a) × ((x : Record) → m.last ≡ Some (Commit x) → ⊥))) → ComesNext m i o a b
-comes_next m input.Start o a b small running purpose due given whole alone after unreserved which =
-    absurd (running (started m.last input.Start refl due))
-comes_next m input.Survey o a b small running purpose due given whole alone after unreserved which =
-    absurd (running (started m.last input.Survey refl due))
+comes_next m input.Start o a b small running purpose due given whole alone after unreserved which = absurd (running (started m.last input.Start refl due))
+comes_next m input.Survey o a b small running purpose due given whole alone after unreserved which = absurd (running (started m.last input.Survey refl due))
 comes_next m (input.Heard h) o a b small running purpose due given whole alone after unreserved which =
     let put = put_is m.last (input.Heard h) refl due in heard_next m h o a b put.0 put.1 small purpose put.2 given whole which
 comes_next m input.Destroyed o a b small running purpose due given whole alone after unreserved which =
@@ -422,8 +413,7 @@ pub record Looks (Q : Step → Type 0) (L : List Step → Machine → ℕ → Ty
   pub now : (s : Step) (earlier : List Step) (h : Answer) (b p : ℕ) (f : Forward) → Q s → s.before.asked ≤ 2 → s.told ≡ input.Heard h
       → s.before.course.purpose ≡ Asking b → b ≡ a → s.before.last ≡ Some (Put p f) → accepts (due_after s.before.last) (input.Heard h) ≡ true
       → IsGiven s.before (input.Heard h) s.order → IsPlain (stage_of (machine_told s.before (input.Heard h)).trace) → IsWhole s.before
-      → IsWhole (machine_after s.before (input.Heard h) s.order)
-      → L (s ∷ earlier) (machine_after s.before (input.Heard h) s.order) a
+      → IsWhole (machine_after s.before (input.Heard h) s.order) → L (s ∷ earlier) (machine_after s.before (input.Heard h) s.order) a
       ⊎ (IsEnded (machine_after s.before (input.Heard h) s.order) ⊎ IsToCome (machine_after s.before (input.Heard h) s.order) a)
 
 seen_first : (id : ℕ) (k : Kept) (o : Order) (a : ℕ) → a < 64 → IsAllowed (machine_told (at_first id k) input.Survey) o
@@ -509,12 +499,11 @@ module _ (Q : Step → Type 0) (L : List Step → Machine → ℕ → Type 0) (a
                 unreserved : (b c r : ℕ) → (machine_after (at_first id k) input.Survey s.order).course.purpose ≡ Asking b
                     → (machine_after (at_first id k) input.Survey s.order).last ≡ Some (Commit (Reserve c r)) → ⊥
                 unreserved b c r purpose last =
-                    let order : s.order ≡ Commit (Reserve c r) = commit_same s.order (Reserve c r) last in
+                    let order : s.order ≡ Commit (Reserve c r) = some_same s.order (Commit (Reserve c r)) last in
                     free_no_mask (machine_told (at_first id k) input.Survey) c r refl
                     (subst (λ q. IsGiven (at_first id k) input.Survey q) order g).answered.allowed
 
-                by : IsSeen (machine_after (at_first id k) input.Survey s.order) a
-                    → IsEnded (machine_after (at_first id k) input.Survey s.order)
+                by : IsSeen (machine_after (at_first id k) input.Survey s.order) a → IsEnded (machine_after (at_first id k) input.Survey s.order)
                     ⊎ (L (s ∷ []) (machine_after (at_first id k) input.Survey s.order) a ⊎ IsToCome (machine_after (at_first id k) input.Survey s.order) a)
                 by (inl ends) = inl ends
                 by (inr (inl table)) = inr (inl (looks.tabled (s ∷ []) (machine_after (at_first id k) input.Survey s.order) table))

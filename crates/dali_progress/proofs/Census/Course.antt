@@ -4,14 +4,13 @@ use Rattle.dali_progress.proofs.Below.{Fault, Input, Record, Reserve, Stage, due
 use Rattle.dali_progress.proofs.Below.{at_first, machine_told, machine_heard, machine_committed, next_course, begins_at, at_rest, course_on, asked_on}
 use Rattle.dali_progress.proofs.Below.{IsAllowed, machine_ordered, asked_by, IsGiven, machine_after, Purpose, Asking, Hunting, Surveying, IsWhole, hunted_keeps}
 use Rattle.dali_progress.proofs.Below.{keeps_way, was_sent, was_lost, IsSurveyed, BeginsBySurvey, AreWhole, frames_asked, frames_lost, IsSteady, AreSteady}
-use Rattle.dali_progress.proofs.Below.{Step, IsTaken, IsCourse}
+use Rattle.dali_progress.proofs.{Below.{Step, IsTaken, IsCourse}, Census.Asked.{by_order, moved_left, still_left, same_left, Leaves, sent_left}}
+use Rattle.dali_progress.proofs.Census.Left.{of_purpose, of_purpose_most, of_last, beyond, left, quiet, goes_moves, StaysOrMoves, begins_moves, on_moves}
+use Rattle.dali_progress.proofs.{Census.Left.{few_askings, Moves, waits, granted, beyond_most}, Accounted.told_keeps}
 use Rattle.dali_script.specs.declared.orders.Input.TheVariants as input
 use Rattle.dali_script.specs.declared.stage.Stage.TheVariants as stage
 use Rattle.dali_script.specs.declared.orders.Due.TheVariants as due
 use Rattle.dali_script.specs.declared.orders.Fault.TheVariants as fault
-use Rattle.dali_progress.proofs.{Census.Asked.{by_order, moved_left, still_left, same_left, Leaves, sent_left}, Census.Left.{of_purpose, of_purpose_most}}
-use Rattle.dali_progress.proofs.Census.Left.{of_last, beyond, left, quiet, goes_moves, StaysOrMoves, begins_moves, on_moves, few_askings, Moves, waits, granted}
-use Rattle.dali_progress.proofs.{Census.Left.beyond_most, Accounted.told_keeps}
 
 -- A CENSUS IS BOUNDED: what an order leaves at every other step, and if no survey counts.
 
@@ -31,16 +30,14 @@ asking_or _ = inr ((λ u k s. refl), (λ h. refl), refl, refl)
 pub any_left : (u : ℕ) (t : Machine) → t.course.way ≡ Surveying → (o : Order) → IsAllowed t o
     → Leaves u t (machine_ordered t o) (beyond u t.course.from + (u + 2))
 any_left u t surveys =
-    by_order t (λ o. Leaves u t (machine_ordered t o) (beyond u t.course.from + (u + 2)))
-    (λ f. by (machine_ordered t (Put FIRST f)) (next_course t) refl
+    by_order t (λ o. Leaves u t (machine_ordered t o) (beyond u t.course.from + (u + 2))) (λ f. by (machine_ordered t (Put FIRST f)) (next_course t) refl
     (of_purpose_most u (machine_ordered t (Put FIRST f)).asked (next_course t).purpose (stage_of [])) (begins_moves t (stage_of t.trace) surveys))
     (λ f running. by (machine_ordered t (Put LATER f)) (course_on t (stage_of t.trace)) refl
     (of_purpose_most u (machine_ordered t (Put LATER f)).asked (course_on t (stage_of t.trace)).purpose (stage_of t.trace))
     (on_moves t (stage_of t.trace) surveys)) (λ x. same (machine_ordered t (Commit x)) refl (omega arith))
     (λ e. same (machine_ordered t (Done e)) refl (omega arith)) (λ w. same (machine_ordered t (Halt w)) refl (omega arith)) where
       same : (n : Machine) → n.course ≡ t.course → of_last u n n.last ≤ u + 2 → Leaves u t n (beyond u t.course.from + (u + 2))
-      same n is most =
-          still_left u t n (beyond u t.course.from + (u + 2)) is (rw (same_left u t n is surveys) (omega (arith, most)))
+      same n is most = still_left u t n (beyond u t.course.from + (u + 2)) is (rw (same_left u t n is surveys) (omega (arith, most)))
 
       by : (n : Machine) (d : Course) → n.course ≡ d → of_last u n n.last ≤ u + 2 → StaysOrMoves t.course d → Leaves u t n (beyond u t.course.from + (u + 2))
       by n d is most (inl stays) = same n (is ∙ stays) most
@@ -52,8 +49,7 @@ pub calm_left : (u : ℕ) (t : Machine) → t.course.way ≡ Surveying → ((k j
 calm_left u t surveys calm =
     by_order t (λ o. Leaves u t (machine_ordered t o) (beyond u t.course.from))
     (λ f. by (machine_ordered t (Put FIRST f)) (next_course t) refl (λ is. rw is (calm u (asked_by t.course.opened t.asked) (stage_of [])))
-    (begins_moves t (stage_of t.trace) surveys))
-    (λ f running. by (machine_ordered t (Put LATER f)) (course_on t (stage_of t.trace)) refl
+    (begins_moves t (stage_of t.trace) surveys)) (λ f running. by (machine_ordered t (Put LATER f)) (course_on t (stage_of t.trace)) refl
     (λ is. rw is (calm u (asked_by t.course.opened t.asked) (stage_of t.trace))) (on_moves t (stage_of t.trace) surveys))
     (λ x. same (machine_ordered t (Commit x)) refl refl) (λ e. same (machine_ordered t (Done e)) refl refl)
     (λ w. same (machine_ordered t (Halt w)) refl refl) where
@@ -151,6 +147,9 @@ Counts u m i n =
     was_sent i m.course.purpose + left u n + granted u m.course.tally.askings ≤ left u m +
     (u + 2) * was_lost i m.course.purpose + granted u n.course.tally.askings
 
+no_more : (n : ℕ) → n * 0 ≡ 0
+no_more n = omega arith
+
 lost_counts : (u : ℕ) (m t : Machine) (i : Input) (o : Order) → t.course ≡ m.course → m.course.way ≡ Surveying
     → ((a : ℕ) → m.course.purpose ≡ Asking a → (was_sent i m.course.purpose ≡ 0) × (was_lost i m.course.purpose ≡ 1))
     → (Rests m.course.purpose → (was_sent i m.course.purpose ≡ 0) × (was_lost i m.course.purpose ≡ 0)) → IsAllowed t o → Counts u m i (machine_ordered t o)
@@ -170,9 +169,6 @@ lost_counts u m t i o same surveys asks rests may = go (asking_or m.course.purpo
   one_more : (n : ℕ) → n * 1 ≡ n
   one_more n = omega arith
 
-  no_more : (n : ℕ) → n * 0 ≡ 0
-  no_more n = omega arith
-
   go : ((a : ℕ) × (m.course.purpose ≡ Asking a)) ⊎ Rests m.course.purpose → Counts u m i (machine_ordered t o)
   go (inl (a, is)) =
       let both = asks a is in
@@ -182,9 +178,6 @@ lost_counts u m t i o same surveys asks rests may = go (asking_or m.course.purpo
       let both = rests calm in
       let fewer = calm_left u t way (λ k j s. ap (λ (c : Course). of_purpose k j c.purpose s) same ∙ calm.0 k j s) o may in
       rw (both.0, both.1, here, no_more) (omega (arith, fewer, from, askings))
-
-no_more : (n : ℕ) → n * 0 ≡ 0
-no_more n = omega arith
 
 heard_counts : (u : ℕ) (m : Machine) (h : Answer) (p : ℕ) (f : Forward) (o : Order) → 1 ≤ u → m.course.way ≡ Surveying → m.last ≡ Some (Put p f) → IsWhole m
     → (h ≡ Silence) ⊎ (3 ≤ waits u m.asked) → IsAllowed (machine_heard m (Some f) h) o → IsWhole (machine_ordered (machine_heard m (Some f) h) o)
@@ -278,16 +271,13 @@ first_bounded u s n begins taken =
           (was_sent i m.course.purpose + 0) + left u (machine_after m i s.order) ≤ (u + 2) * 64 + (u + 2) * (was_lost i m.course.purpose + 0) + granted u
           (machine_after m i s.order).course.tally.askings
 
-      none : (m : ℕ) → m * 0 ≡ 0
-      none m = omega arith
-
       from : (m : Machine) (i : Input) (id : ℕ) (k : Kept) → m ≡ at_first id k → i ≡ input.Survey → IsGiven m i s.order → Few m i
       from m i id k is told given =
           subst (λ (x : Machine). IsGiven x i s.order → Few x i) (sym is)
           (subst (λ j. IsGiven (at_first id k) j s.order → Few (at_first id k) j) (sym told) (λ g.
           let fewer = calm_left u (machine_told (at_first id k) input.Survey) refl (λ a b c. refl) s.order g.answered.allowed in
           let most : beyond u 0 ≤ (u + 2) * 64 = beyond_most u 0 in
-          let first : granted u 0 ≡ 0 = none ((u + 2) * 64) in
+          let first : granted u 0 ≡ 0 = no_more ((u + 2) * 64) in
           rw no_more (omega (arith, fewer, most, first)))) given
 
 more_bounded : (u : ℕ) (s : Step) (earlier : List Step) (n : Machine) → 1 ≤ u → Bounded u earlier s.before → IsTaken s n → IsWhole s.before → IsWhole n

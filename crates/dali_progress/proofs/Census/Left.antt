@@ -51,19 +51,17 @@ granted u askings = (u + 2) * 64 * askings
 abbrev pub left : ℕ → Machine → ℕ
 left u n = left_on u n n.course.way
 
+plus_one : (m n : ℕ) → m * (n + 1) ≡ m * n + m
+plus_one m n = omega arith
+
 pub beyond_less : (u from next : ℕ) → from < next → next ≤ 64 → beyond u next + (u + 2) ≤ beyond u from
 beyond_less u from next less within =
     let few : (64 - next) + 1 ≤ 64 - from = omega (arith, less, within) in
     let more : (u + 2) * ((64 - next) + 1) ≤ (u + 2) * (64 - from) = mul-le-mul_left (u + 2) few in
     subst (λ n. n ≤ beyond u from) (plus_one (u + 2) (64 - next)) more
-  where
-    plus_one : (m n : ℕ) → m * (n + 1) ≡ m * n + m
-    plus_one m n = omega arith
 
 pub granted_more : (u askings : ℕ) → granted u (askings + 1) ≡ granted u askings + (u + 2) * 64
-granted_more u askings = plus_one ((u + 2) * 64) askings where
-  plus_one : (m n : ℕ) → m * (n + 1) ≡ m * n + m
-  plus_one m n = omega arith
+granted_more u askings = plus_one ((u + 2) * 64) askings
 
 pub beyond_most : (u from : ℕ) → beyond u from ≤ (u + 2) * 64
 beyond_most u from = mul-le-mul_left (u + 2) (let few : 64 - from ≤ 64 = omega arith in few)
@@ -128,8 +126,7 @@ asks_with c None = (refl, refl)
 asks_with c (Some a) = (refl, refl)
 
 asks_next : (k : Kept) (c : Course) → c.way ≡ Surveying → Moves c (ask_or_call c (next_asked k c.from))
-asks_next k c is =
-    let with_it = asks_with c (next_asked k c.from) in record { way = with_it.0 ∙ is; on = inl (with_it.1, asks_further k c) }
+asks_next k c is = let with_it = asks_with c (next_asked k c.from) in record { way = with_it.0 ∙ is; on = inl (with_it.1, asks_further k c) }
 
 going_moves : (k : Kept) (opened : Bool) (c : Course) → c.way ≡ Surveying → Moves c (going_on k opened c)
 going_moves k true c is = subst (λ y. Moves c (searching_on y c)) (sym is) (quiet is refl refl (λ u n s. refl))
@@ -184,8 +181,7 @@ hunted_moves t h is = go (leads_to (hunted t.course h).ascent) where
       either (Moves t.course) ((hunted t.course h).ascent.found == 0) (undrawn_moves t (hunted t.course h) is refl refl) (quiet is refl refl (λ u n s. refl))
 
 called_moves : (t : Machine) (b : Bool) → t.course.way ≡ Surveying → Moves t.course (called_to t b t.course)
-called_moves t false is =
-    either (Moves t.course) t.course.tally.is_silent (quiet is refl refl (λ u n s. refl)) (quiet is refl refl (λ u n s. refl))
+called_moves t false is = either (Moves t.course) t.course.tally.is_silent (quiet is refl refl (λ u n s. refl)) (quiet is refl refl (λ u n s. refl))
 called_moves t true is =
     either (Moves t.course) (is_blocked t.course.tally)
     (either (Moves t.course) (may_draw t) (quiet is refl refl (λ u n s. refl)) (quiet is refl refl (λ u n s. refl))) (quiet is refl refl (λ u n s. refl))
@@ -195,8 +191,7 @@ compared_moves t Calling h is = called_moves t (is_yes h) is
 compared_moves t _ h is = hunted_moves t h is
 
 first_moves : (t : Machine) → t.course.way ≡ Surveying → Moves t.course (searching_first t.course.way t.course)
-first_moves t is =
-    subst (λ y. Moves t.course (searching_first y t.course)) (sym is) (quiet is refl refl (λ u n s. refl))
+first_moves t is = subst (λ y. Moves t.course (searching_first y t.course)) (sym is) (quiet is refl refl (λ u n s. refl))
 
 ungiven_moves : (t : Machine) → t.course.way ≡ Surveying → Moves t.course (ungiven t t.course.way)
 ungiven_moves t is =

@@ -3,11 +3,10 @@ use Rattle.dali_progress.proofs.Below.{zero, suc, AllByRecursion, Answer, Silenc
 use Rattle.dali_progress.proofs.Below.{given, byte_heard, finding_at, Order, Put, Commit, Done, Halt, Reserve, Enrol, Machine, machine_told, machine_heard}
 use Rattle.dali_progress.proofs.Below.{asked_at, begins_at, asked_once, IsGiven, IsAllowed, machine_after, machine_ordered, IsWhole, Asking, Fresh}
 use Rattle.dali_progress.proofs.Below.{BeginsBySurvey, AreWhole, WasSilent, Step, IsTaken, IsCourse, IsPlain, ArePlain, IsAccounted, stage_told, heard_at}
-use Rattle.dali_progress.proofs.Below.{heard_by}
+use Rattle.dali_progress.proofs.{Below.heard_by, Accounted.{accounted_by, accounted_stays, unreserved}, Census.{Asked.{Asks, later_asks}, Coming.IsToCome}}
+use Rattle.dali_progress.proofs.Census.Coming.{IsEnded, Hearing, hearing_of, again, Looks, Watched, watched}
 use Rattle.dali_script.specs.declared.orders.Input.TheVariants as input
 use Rattle.dali_script.specs.declared.stage.Stage.TheVariants as stage
-use Rattle.dali_progress.proofs.{Accounted.{accounted_by, accounted_stays, unreserved}, Census.Asked.{Asks, later_asks}, Census.Coming.{IsToCome, IsEnded}}
-use Rattle.dali_progress.proofs.Census.Coming.{Hearing, hearing_of, again, Looks, Watched, watched}
 
 -- WHAT IS GIVEN WAS SILENT: once a census is over, each short address was silent or is accounted for.
 
@@ -69,8 +68,7 @@ Anything s = Unit {0}
 looked_now : (s : Step) (earlier : List Step) (a b p : ℕ) (f : Forward) (h : Answer) → a < 64 → s.before.asked ≤ 2 → s.told ≡ input.Heard h
     → s.before.course.purpose ≡ Asking b → b ≡ a → s.before.last ≡ Some (Put p f) → accepts (due_after s.before.last) (input.Heard h) ≡ true
     → IsGiven s.before (input.Heard h) s.order → IsPlain (stage_of (machine_told s.before (input.Heard h)).trace) → IsWhole s.before
-    → IsWhole (machine_after s.before (input.Heard h) s.order)
-    → IsLooked (s ∷ earlier) (machine_after s.before (input.Heard h) s.order) a ⊎
+    → IsWhole (machine_after s.before (input.Heard h) s.order) → IsLooked (s ∷ earlier) (machine_after s.before (input.Heard h) s.order) a ⊎
     (IsEnded (machine_after s.before (input.Heard h) s.order) ⊎ IsToCome (machine_after s.before (input.Heard h) s.order) a)
 looked_now s earlier a b p f h small count is purpose here last due given plain whole after =
     by (came_of s.before (machine_heard s.before (Some f) h) h a b p f count purpose here last hears s.order
@@ -81,8 +79,7 @@ looked_now s earlier a b p f h small count is purpose here last due given plain 
       hears : Hearing s.before (machine_heard s.before (Some f) h) b h
       hears = hearing_of s.before h p f b purpose last whole
 
-      by : Third s.before (machine_heard s.before (Some f) h) h a
-          ⊎ ((heard_at (stage_of (machine_heard s.before (Some f) h).trace) h ≡ Some b)
+      by : Third s.before (machine_heard s.before (Some f) h) h a ⊎ ((heard_at (stage_of (machine_heard s.before (Some f) h).trace) h ≡ Some b)
           ⊎ (IsEnded (machine_ordered (machine_heard s.before (Some f) h) s.order) ⊎ IsToCome (machine_ordered (machine_heard s.before (Some f) h) s.order) a))
           → IsLooked (s ∷ earlier) (machine_after s.before (input.Heard h) s.order) a
           ⊎ (IsEnded (machine_after s.before (input.Heard h) s.order) ⊎ IsToCome (machine_after s.before (input.Heard h) s.order) a)

@@ -2,11 +2,10 @@ use Rattle.dali_progress.proofs.Below.{◌≡◌, ℕ, ◌<◌, inl, inr, true, 
 use Rattle.dali_progress.proofs.Below.{nat_tests, AllByRecursion, MASK24, Answer, Byte, Forward, due_after, accepts, frame_put, stage_of, given, Put, Stage}
 use Rattle.dali_progress.proofs.Below.{Machine, machine_told, machine_heard, IsGiven, machine_after, machine_ordered, turn_of, IsWhole, Asking, Spells}
 use Rattle.dali_progress.proofs.Below.{WasSpelled, IsNamed, IsClean, HasTakenCensus, BeginsBySurvey, AreWhole, Step, IsTaken, IsCourse, IsPlain, ArePlain}
-use Rattle.dali_progress.proofs.Below.{Command, RandomByte, Middle, Low}
+use Rattle.dali_progress.proofs.{Below.{Command, RandomByte, Middle, Low}, Accounted.{told_enrolled, never_due, named_by, enrolling}, Census.Coming.IsTabled}
+use Rattle.dali_progress.proofs.{Census.Coming.{IsToCome, IsEnded, Hearing, hearing_of, Looks, watched}, Later.{IsUnasked, course_stays, turn_unasked}}
 use Rattle.dali_script.specs.declared.stage.Stage.TheVariants as stage
 use Rattle.dali_script.specs.declared.orders.Input.TheVariants as input
-use Rattle.dali_progress.proofs.{Accounted.{told_enrolled, never_due, named_by, enrolling}, Census.Coming.{IsTabled, IsToCome, IsEnded, Hearing, hearing_of}}
-use Rattle.dali_progress.proofs.{Census.Coming.{Looks, watched}, Later.{IsUnasked, course_stays, turn_unasked}}
 
 -- WHO TOLD ITS RANDOM ADDRESS IS IN THE TABLE.
 
@@ -19,10 +18,8 @@ stays_named s n a r taken was = subst (λ (x : Machine). IsNamed x a r) (sym tak
 
 told_named : (s : Step) (n : Machine) (a r : ℕ) → IsTaken s n → r < MASK24 → Spells s a r → IsNamed n a r
 told_named s n a r taken drawn tells =
-    subst (λ (x : Machine). IsNamed x a r) (sym taken.after)
-    (subst (λ i. accepts (due_after s.before.last) i ≡ true → IsGiven s.before i s.order
-    → stage_of (machine_told s.before i).trace ≡ stage.Spelled a (Some r)
-    → IsNamed (machine_after s.before i s.order) a r) (sym tells.heard.1)
+    subst (λ (x : Machine). IsNamed x a r) (sym taken.after) (subst (λ i. accepts (due_after s.before.last) i ≡ true → IsGiven s.before i s.order
+    → stage_of (machine_told s.before i).trace ≡ stage.Spelled a (Some r) → IsNamed (machine_after s.before i s.order) a r) (sym tells.heard.1)
     (λ due given number. named_by s.before tells.heard.0 s.order a tells.asking.0 r due given tells.asking.1 number drawn)
     taken.due taken.given tells.number)
 

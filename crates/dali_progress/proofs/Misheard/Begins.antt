@@ -5,15 +5,14 @@ use Rattle.dali_progress.proofs.Below.{trace_none, stage_none, Ascent, ascent_at
 use Rattle.dali_progress.proofs.Below.{calling_first, ask_or_call, asking_again, next_asked, going_on, going_on_early, hunting, hunting_first, hunting_above}
 use Rattle.dali_progress.proofs.Below.{searching_on, closing as closing_by, Machine, next_course, beginning, goes_on_to, asks_again, full, is_failed}
 use Rattle.dali_progress.proofs.Below.{machine_ordered, served, asked_again, Purpose, Hunting, Visiting, PassingOver, Shorts, Tally, Surveying, IsGivenBy}
-use Rattle.dali_progress.proofs.Below.{gear_of, is_wanted, wants, OpenedBy}
+use Rattle.dali_progress.proofs.{Below.{gear_of, is_wanted, wants, OpenedBy}, Census.{Coming.{asked_later, asked_before, unasked_enrolled}, Left.asked_within}}
+use Rattle.dali_progress.proofs.{Later.{IsUnasked, later_leaves, turn_unasked}, Misheard.{Gear.{Each, AreSought, AreBare, AreKnown}, Stands.IsCounted}}
+use Rattle.dali_progress.proofs.Misheard.Stands.{IsSpent, HuntStage, Rises, IsReached, IsPast, HuntAt, Hunted, Hunts, EndsBy, AreTabledBelow, AreSeen, IsCensus}
+use Rattle.dali_progress.proofs.{Misheard.Stands.{KnownAt, At, MisheardStands, Calm, IsFew}, Survey.{Drawn.woken_short, Queried.{OneShort, IsTrue}}}
+use Rattle.dali_progress.proofs.{Survey.{Stands.AreTaken, Woken.AreLow}, Surveying.{roll_first, IsClear}}
 use Rattle.dali_script.specs.declared.stage.Stage.TheVariants as stage
 use Rattle.dali_controller.proofs.Given as given
 use Rattle.dali_progress.proofs.Misheard.Climbing as climbing
-use Rattle.dali_progress.proofs.{Census.Coming.{asked_later, asked_before, unasked_enrolled}, Census.Left.asked_within, Later.{IsUnasked, later_leaves}}
-use Rattle.dali_progress.proofs.{Later.turn_unasked, Misheard.Gear.{Each, AreSought, AreBare, AreKnown}, Misheard.Stands.{IsCounted, IsSpent, HuntStage, Rises}}
-use Rattle.dali_progress.proofs.Misheard.Stands.{IsReached, IsPast, HuntAt, Hunts, EndsBy, AreTabledBelow, AreSeen, IsCensus, KnownAt, At, MisheardStands, Calm}
-use Rattle.dali_progress.proofs.{Survey.Drawn.woken_short, Survey.Queried.{OneShort, IsTrue}, Survey.Stands.AreTaken, Survey.Woken.AreLow, Surveying.roll_first}
-use Rattle.dali_progress.proofs.{Surveying.IsClear}
 
 -- A TRANSACTION BEGINS, or goes on; and what is to come of an order.
 
@@ -43,11 +42,7 @@ KeepsPast g k heard c silent gs = Past g c silent gs × AreSeen k heard gs
 
 -- a reservation is to be kept, and then its gear is visited once more
 pub record KeepsReserved (g : ℕ) (k : Kept) (heard : Shorts) (c : Course) (silent a r : ℕ) (gs : List Gear) : Type 0 where
-  pub opened_is : c.opened ≡ true
-  pub counted : IsCounted g c.tally silent 0 gs
-  pub few : is_wanted (gear_of gs g) ≡ true → c.tally.passed.count ≤ c.tally.calls + c.tally.draws
-  pub low : AreLow gs
-  pub sought_are : AreSought g c.ascent.found gs
+  pub hunted : Hunted g (IsFew Visiting g c.tally gs) c.opened c.tally silent 0 c.ascent.found gs
   pub bare : AreBare g gs
   pub drawn : r < MASK24
   pub reached : IsReached c.ascent r gs
@@ -67,8 +62,7 @@ Keeps g k heard c silent (Reserve a r) gs = KeepsReserved g k heard c silent a r
 Keeps g k heard c silent (Enrol b r) gs =
     (KeepsAsked g (with_record k (Enrol b r)) heard c silent gs
     × (((IsFirst c.tally) × AreTabledBelow c.from (with_record k (Enrol b r)).enrolled gs) ⊎ IsOwn k b r)) ⊎ (KeepsPast g k heard c silent gs × IsOwn k b r)
-Keeps g k heard c silent (Release a r) gs =
-    KeepsAsked g k heard c silent gs × (IsFirst c.tally × AreTabledBelow c.from k.enrolled gs)
+Keeps g k heard c silent (Release a r) gs = KeepsAsked g k heard c silent gs × (IsFirst c.tally × AreTabledBelow c.from k.enrolled gs)
 
 abbrev pub IsNext : ℕ → Machine → Order → List Gear → Type 0
 IsNext g m (Put p f) gs = MisheardStands false g m gs
@@ -82,38 +76,23 @@ GoesTo g t o gs = IsNext g (machine_ordered t o) o gs
 -- ---------------------------------------------------------------- a later frame
 
 rises_untold : (g : ℕ) (s : Stage) (x : Ascent) (n : SearchAddress) (gs : List Gear) → IsUnasked s Hunting → Rises true g s x n gs → Rises false g s x n gs
-rises_untold g s x n gs unasked v = record {
-  is = v.is;
-  knows = v.knows;
-  running = v.running;
-  number = v.number;
-  bare = v.bare;
-  stage_is = go s unasked v.stage_is;
-} where
-  go : (s : Stage) → IsUnasked s Hunting → HuntStage true s n gs → HuntStage false s n gs
-  go stage.Free unasked at = tt
-  go (stage.HighSent high) unasked at = tt
-  go (stage.LowSent high low) unasked at = tt
-  go (stage.Hunted r None left) unasked at = tt
-  go (stage.Hunted r (Some h) left) unasked at = absurd unasked
-  go _ unasked at = absurd at
+rises_untold g s x n gs unasked v =
+    record { is = v.is; knows = v.knows; running = v.running; number = v.number; bare = v.bare; stage_is = go s unasked v.stage_is } where
+      go : (s : Stage) → IsUnasked s Hunting → HuntStage true s n gs → HuntStage false s n gs
+      go stage.Free unasked at = tt
+      go (stage.HighSent high) unasked at = tt
+      go (stage.LowSent high low) unasked at = tt
+      go (stage.Hunted r None left) unasked at = tt
+      go (stage.Hunted r (Some h) left) unasked at = absurd unasked
+      go _ unasked at = absurd at
 
 hunts_untold : (g : ℕ) (p : Purpose) (s : Stage) (c : Course) (silent : ℕ) (gs : List Gear)
     → (HuntAt true g p s c.ascent c.number gs → HuntAt false g p s c.ascent c.number gs) → Hunts true g p s c silent gs → Hunts false g p s c silent gs
-hunts_untold g p s c silent gs on v = record {
-  opened_is = v.opened_is;
-  counted = v.counted;
-  few = v.few;
-  low = v.low;
-  sought_are = v.sought_are;
-  quiet = v.quiet;
-  at = on v.at;
-}
+hunts_untold g p s c silent gs on v = record { hunted = v.hunted; quiet = v.quiet; at = on v.at }
 
 untold : (g : ℕ) (p : Purpose) (s : Stage) (k : Kept) (heard : Shorts) (c : Course) (silent : ℕ) (gs : List Gear) → IsUnasked s p
     → At true g p s k heard c silent gs → At false g p s k heard c silent gs
-untold g Hunting s k heard c silent gs unasked at =
-    hunts_untold g Hunting s c silent gs (rises_untold g s c.ascent c.number gs unasked) at
+untold g Hunting s k heard c silent gs unasked at = hunts_untold g Hunting s c silent gs (rises_untold g s c.ascent c.number gs unasked) at
 untold g Visiting s k heard c silent gs unasked at = hunts_untold g Visiting s c silent gs (λ v. v) at
 untold g PassingOver s k heard c silent gs unasked at = hunts_untold g PassingOver s c silent gs (λ v. v) at
 untold g _ s k heard c silent gs unasked at = at
@@ -237,11 +216,7 @@ pub hunts_first : (g : ℕ) (t : Machine) (o : Order) (cs : Course) (gs : List G
     → cs.tally.passed.count ≤ cs.tally.calls + cs.tally.draws → AreLow gs → Each gs (λ k y. OpenedBy y) → AreSeen t.kept t.heard gs → GoesTo g t o gs
 hunts_first g t o cs gs calm is next way opened counted few low all known =
     first_by g t o (hunting_first cs) gs calm is next way (record {
-      opened_is = opened;
-      counted = counted;
-      few = λ wanted_is. few;
-      low = low;
-      sought_are = sought_opened g gs all;
+      hunted = record { opened_is = opened; counted = counted; few = λ wanted_is. few; low = low; sought_are = sought_opened g gs all };
       quiet = tt;
       at = record {
         is = climbing.first_is;
@@ -261,11 +236,13 @@ pub hunts_above : (g : ℕ) (t : Machine) (o : Order) (cs : Course) (v : ℕ) (g
 hunts_above g t o cs v gs calm is next way opened counted few low sought_are bare drawn past known =
     first_by g t o (hunting (record cs { ascent = above cs.ascent v })) gs calm is
     (next ∙ ap (λ q. hunting (record cs { ascent = gone_on_from q cs.ascent })) past.reached) way (record {
-      opened_is = opened;
-      counted = counted;
-      few = few;
-      low = low;
-      sought_are = λ k there on but none small. sought_are k there on (λ e. absurd (climbing.above_found cs.ascent v (but e))) none small;
+      hunted = record {
+        opened_is = opened;
+        counted = counted;
+        few = few;
+        low = low;
+        sought_are = λ k there on but none small. sought_are k there on (λ e. absurd (climbing.above_found cs.ascent v (but e))) none small;
+      };
       quiet = tt;
       at = record {
         is = climbing.above_is cs.ascent v past.is drawn;

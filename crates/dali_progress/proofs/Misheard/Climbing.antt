@@ -56,10 +56,8 @@ pub anything_anew : (has : ℕ → Bool) (x : Ascent) → Knows has (begun_anew 
 anything_anew has x = record { above = λ m member. omega arith; below = λ small. absurd (omega (arith, small)) }
 
 pub knows_above : (has : ℕ → Bool) (x : Ascent) (r : ℕ) → ((m : ℕ) → has m ≡ true → r < m) → Knows has (above x r)
-knows_above has x r past = record {
-  above = λ m member. (let more : r < m = past m member in omega (arith, more));
-  below = λ small. absurd (omega (arith, small));
-}
+knows_above has x r past =
+    record { above = λ m member. (let more : r < m = past m member in omega (arith, more)); below = λ small. absurd (omega (arith, small)) }
 
 pub above_found : (x : Ascent) (r : ℕ) → (above x r).found ≡ 0 → ⊥
 above_found x r = some x.found where

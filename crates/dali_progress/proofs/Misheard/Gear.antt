@@ -4,9 +4,8 @@ use Rattle.dali_progress.proofs.Below.{Program, Gear, draws_a_number, is_second,
 use Rattle.dali_progress.proofs.Below.{Everyone, InitialisationState, Disabled, Enabled, Withdrawn, Assignment, Has, HasShort, gear_of, is_wanted, Seek}
 use Rattle.dali_progress.proofs.Below.{found_random, row_length, random_found, one_answers, queried_short, queried_none, SameGear, SameCore, AreOpening}
 use Rattle.dali_progress.proofs.Below.{after_program, Programs, programs_at, same_number, number_same, after_at, wanted_powered, wanted_active, after_withdraw}
-use Rattle.dali_progress.proofs.Below.{Withdraws, withdraws_at}
+use Rattle.dali_progress.proofs.{Below.{Withdraws, withdraws_at}, Stands.HaveShort, Survey.Drawn.DrewApart, Later.some_same}
 use Rattle.dali_script.specs.declared.stage.Stage.TheVariants as stage
-use Rattle.dali_progress.proofs.{Stands.HaveShort, Survey.Drawn.DrewApart}
 
 -- WHAT IS TRUE OF GEAR IF ONE IS MISHEARD: of each gear with power, by its number in the row.
 
@@ -64,16 +63,14 @@ HaveDrawn gs = Each gs HasDrawn
 
 -- each that has a short address and a number is in the table, or the address is reserved for it
 abbrev pub IsKnown : List Assignment → List Assignment → ℕ → Gear → Type 0
-IsKnown reserved enrolled k y =
-    (a : ℕ) → a < 64 → y.short ≡ Some a → y.random < MASK24 → Has enrolled (a, y.random) ⊎ Has reserved (a, y.random)
+IsKnown reserved enrolled k y = (a : ℕ) → a < 64 → y.short ≡ Some a → y.random < MASK24 → Has enrolled (a, y.random) ⊎ Has reserved (a, y.random)
 
 abbrev pub AreKnown : List Assignment → List Assignment → List Gear → Type 0
 AreKnown reserved enrolled gs = Each gs (IsKnown reserved enrolled)
 
 -- one with power that has this number has this short address
 abbrev pub HasOne : ℕ → ℕ → List Gear → Type 0
-HasOne v a gs =
-    (k : ℕ) × (k < length gs) × ((gear_of gs k).powered ≡ true) × ((gear_of gs k).short ≡ Some a) × ((gear_of gs k).random ≡ v)
+HasOne v a gs = (k : ℕ) × (k < length gs) × ((gear_of gs k).powered ≡ true) × ((gear_of gs k).short ≡ Some a) × ((gear_of gs k).random ≡ v)
 
 -- ---------------------------------------------------------------- frames that leave all but search addresses
 
@@ -83,8 +80,7 @@ sought_core g found =
     ∙ was but (sym same.same_short ∙ none) (subst (λ n. n < MASK24) same.same_random small))
 
 pub bare_core : (g : ℕ) (gs hs : List Gear) → SameCore gs hs → AreBare g gs → AreBare g hs
-bare_core g =
-    each_core (IsBareOne g) (IsBareOne g) (λ k y z same was other enabled. same.same_short ∙ was other (sym same.same_state ∙ enabled))
+bare_core g = each_core (IsBareOne g) (IsBareOne g) (λ k y z same was other enabled. same.same_short ∙ was other (sym same.same_state ∙ enabled))
 
 pub bare_but_core : (g v : ℕ) (gs hs : List Gear) → SameCore gs hs → AreBareBut g v gs → AreBareBut g v hs
 bare_but_core g v =
@@ -92,8 +88,7 @@ bare_but_core g v =
     ∙ was other (sym same.same_state ∙ enabled) (λ e. apart (same.same_random ∙ e)))
 
 pub drawn_core : (gs hs : List Gear) → SameCore gs hs → HaveDrawn gs → HaveDrawn hs
-drawn_core =
-    each_core HasDrawn HasDrawn (λ k y z same was none. subst (λ n. n < MASK24) (sym same.same_random) (was (sym same.same_short ∙ none)))
+drawn_core = each_core HasDrawn HasDrawn (λ k y z same was none. subst (λ n. n < MASK24) (sym same.same_random) (was (sym same.same_short ∙ none)))
 
 pub known_core : (reserved enrolled : List Assignment) (gs hs : List Gear) → SameCore gs hs → AreKnown reserved enrolled gs → AreKnown reserved enrolled hs
 known_core reserved enrolled =
@@ -103,13 +98,8 @@ known_core reserved enrolled =
 
 pub one_core : (v a : ℕ) (gs hs : List Gear) → SameCore gs hs → HasOne v a gs → HasOne v a hs
 one_core v a gs hs same one =
-    let each = same.each one.0 one.1 in (
-      one.0,
-      subst (λ n. one.0 < n) (sym same.same_length) one.1,
-      each.same_powered ∙ one.2,
-      each.same_short ∙ one.3,
-      each.same_random ∙ one.4,
-    )
+    let each = same.each one.0 one.1 in
+    (one.0, subst (λ n. one.0 < n) (sym same.same_length) one.1, each.same_powered ∙ one.2, each.same_short ∙ one.3, each.same_random ∙ one.4)
 
 -- ---------------------------------------------------------------- an address is programmed
 
@@ -149,9 +139,6 @@ known_programmed reserved enrolled gs numbers r a seek has all k in_row on b sma
       p : Programs (value_of r) a (gear_of gs k) (gear_of (after_program a gs numbers) k)
       p = programs_at gs numbers r a seek k there
 
-      some_same : (m n : ℕ) → Some m ≡ Some n → m ≡ n
-      some_same m n e = cc
-
       up : (gear_of gs k).powered ≡ true
       up = sym p.same_powered ∙ on
 
@@ -184,8 +171,7 @@ known_drawn reserved enrolled gs numbers still all =
 
 pub known_once : (reserved enrolled : List Assignment) (gs : List Gear) (numbers : List ℕ) → AreOpening stage.Initialised gs → AreKnown reserved enrolled gs
     → AreKnown reserved enrolled (row_after Everyone Randomise 0 gs numbers)
-known_once reserved enrolled gs numbers all =
-    known_drawn reserved enrolled gs numbers (λ k there on a short. (let half = (all k there on).0 in rw half refl))
+known_once reserved enrolled gs numbers all = known_drawn reserved enrolled gs numbers (λ k there on a short. (let half = (all k there on).0 in rw half refl))
 
 pub known_twice : (reserved enrolled : List Assignment) (gs : List Gear) (numbers : List ℕ) → AreOpening stage.RandomisedOnce gs → AreKnown reserved enrolled gs
     → AreKnown reserved enrolled (row_after Everyone Randomise 0 gs numbers)
@@ -209,13 +195,8 @@ known_more reserved enrolled more more_enrolled gs one two all k there on a smal
 
 pub one_withdrawn : (v a : ℕ) (gs : List Gear) (numbers : List ℕ) (r : SearchAddress) → Seek gs r → HasOne v a gs → HasOne v a (after_withdraw gs numbers)
 one_withdrawn v a gs numbers r seek one =
-    let w = withdraws_at gs numbers r seek one.0 one.1 in (
-      one.0,
-      subst (λ n. one.0 < n) (sym (row_length Everyone Withdraw 0 gs numbers)) one.1,
-      w.same_powered ∙ one.2,
-      w.same_short ∙ one.3,
-      w.same_random ∙ one.4,
-    )
+    let w = withdraws_at gs numbers r seek one.0 one.1 in
+    (one.0, subst (λ n. one.0 < n) (sym (row_length Everyone Withdraw 0 gs numbers)) one.1, w.same_powered ∙ one.2, w.same_short ∙ one.3, w.same_random ∙ one.4)
 
 pub have_named : (g v a : ℕ) (gs : List Gear) → HaveShort gs v a → AreNamedBut g v gs
 have_named g v a gs all k there on other enabled random = (a, all k there on (rw enabled refl) random)
@@ -273,8 +254,7 @@ pub random_core : (gs hs : List Gear) (k : ℕ) → SameCore gs hs → k < lengt
 random_core gs hs k same there = (same.each k there).same_random
 
 pub random_programmed : (gs : List Gear) (numbers : List ℕ) (a k : ℕ) → k < length gs → (gear_of (after_program a gs numbers) k).random ≡ (gear_of gs k).random
-random_programmed gs numbers a k there =
-    after_at (Program (Some a)) (λ y z. z.random ≡ y.random) (λ y off. refl) (λ y x on. refl) gs numbers k there
+random_programmed gs numbers a k there = after_at (Program (Some a)) (λ y z. z.random ≡ y.random) (λ y off. refl) (λ y x on. refl) gs numbers k there
 
 pub random_withdrawn : (gs : List Gear) (numbers : List ℕ) (k : ℕ) → k < length gs → (gear_of (after_withdraw gs numbers) k).random ≡ (gear_of gs k).random
 random_withdrawn gs numbers k there = after_at Withdraw (λ y z. z.random ≡ y.random) (λ y off. refl) (λ y x on. refl) gs numbers k there

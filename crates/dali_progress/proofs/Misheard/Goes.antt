@@ -6,19 +6,18 @@ use Rattle.dali_progress.proofs.Below.{machine_heard, machine_surveying, machine
 use Rattle.dali_progress.proofs.Below.{machine_after, AfterEnrolled, has_short, IsWhole, Sends, Purpose, Shorts, IsGivenBy, Allowed, happens, entry}
 use Rattle.dali_progress.proofs.Below.{trace_running, KeepsPromiseNow, IsRun, LeavesUsed, World, controller_at, Event, row_length, IsFound, LeavesWhole}
 use Rattle.dali_progress.proofs.Below.{SiteState, world, site_logged, machine_at, IsHeardBut, IsOfRoundBut, RoundsBut, EndsWellBut, IsTrueEndBut, HasEnded}
-use Rattle.dali_progress.proofs.Below.{GoesOn, IsAlone, Succeeds, IsOfRound, Rounds, site_after}
+use Rattle.dali_progress.proofs.{Below.{GoesOn, IsAlone, Succeeds, IsOfRound, Rounds, site_after}, Along.{RunsBy, runs_first, acted_to, frame_to, sent_to}}
+use Rattle.dali_progress.proofs.{Along.{ended_at, goes_by, HoldsBy, holds_next, acts_from}, Both.{never_eight, with_kept, put_no_enrolment, not_free, no_tries}}
+use Rattle.dali_progress.proofs.{Both.{IsKnown, lawful_now, no_enrolment_now, no_enrolment_yet, reserved_begins}, Census.Asked.sending_of, Frames.Seeks}
+use Rattle.dali_progress.proofs.{Logged.{same_some, world_logged}, Lone.{IsLone, lone_sent}, Misheard.Stands.{Calm, EndsBy, AreTabledBelow, KnownAt, At}}
+use Rattle.dali_progress.proofs.Misheard.{Stands.MisheardStands, Begins.{IsOwn, Keeps, IsNext, first_by, asks_on, hunts_on, GoesTo}, Known.{SentTo, at_sent}}
+use Rattle.dali_progress.proofs.{Misheard.{Known.known_sent, Sent.Taken, Visits.turned}, Survey.Goes.{found_sent, acted_so, promise_now, surveyed_now}}
+use Rattle.dali_progress.proofs.Survey.{Goes.IsActedSo, Visits.rest_next, Queried.{OneShort, IsTrue, IsAtHand}, Turns.IsUncontradicted}
 use Rattle.dali_script.specs.declared.orders.Input.TheVariants as input
 use Rattle.dali_script.specs.declared.stage.Stage.TheVariants as stage
 use Rattle.dali_controller.proofs.Given as given
 use Rattle.dali_events.specs.declared.event.Event.TheVariants as event
 use Rattle.dali_progress.proofs.Misheard.Gear as gear
-use Rattle.dali_progress.proofs.{Along.{RunsBy, runs_first, acted_to, frame_to, sent_to, ended_at, goes_by, HoldsBy, holds_next, acts_from}, Both.never_eight}
-use Rattle.dali_progress.proofs.Both.{with_kept, put_no_enrolment, not_free, no_tries, IsKnown, lawful_now, no_enrolment_now, no_enrolment_yet, reserved_begins}
-use Rattle.dali_progress.proofs.{Census.Asked.sending_of, Frames.Seeks, Logged.{same_some, world_logged}, Lone.{IsLone, lone_sent}, Misheard.Stands.Calm}
-use Rattle.dali_progress.proofs.{Misheard.Stands.{EndsBy, AreTabledBelow, KnownAt, At, MisheardStands}, Misheard.Begins.{IsOwn, Keeps, IsNext, first_by}}
-use Rattle.dali_progress.proofs.{Misheard.Begins.{asks_on, hunts_on, GoesTo}, Misheard.Known.{SentTo, at_sent, known_sent}, Misheard.Sent.Taken}
-use Rattle.dali_progress.proofs.{Misheard.Visits.turned, Survey.Goes.{found_sent, acted_so, promise_now, surveyed_now, IsActedSo}, Survey.Visits.rest_next}
-use Rattle.dali_progress.proofs.{Survey.Queried.{OneShort, IsTrue, IsAtHand}, Survey.Turns.IsUncontradicted}
 
 -- A SURVEY GOES ON, event by event, if gear g is misheard.
 
@@ -28,15 +27,8 @@ committed : (g : ℕ) (m : Machine) (x : Record) (o : Order) (gs : List Gear) �
     → m.last ≡ Some (Commit x) → IsGivenBy (with_kept m x) o → OneShort gs → IsTrue (with_kept m x).kept.enrolled gs → GoesTo g (with_kept m x) o gs
 committed g m (Reserve a r) o gs calm v free last by one holds =
     first_by g (with_kept m (Reserve a r)) o (visiting m.course r) gs calm (reserved_begins m a r o calm.untried free last by)
-    (rest_next m (Reserve a r) free last) calm.way (record {
-      opened_is = v.opened_is;
-      counted = v.counted;
-      few = v.few;
-      low = v.low;
-      sought_are = v.sought_are;
-      quiet = tt;
-      at = record { visited = r; number = refl; drawn = v.drawn; stage_is = (v.reached, v.bare) };
-    }) (
+    (rest_next m (Reserve a r) free last) calm.way
+    (record { hunted = v.hunted; quiet = tt; at = record { visited = r; number = refl; drawn = v.drawn; stage_is = (v.reached, v.bare) } }) (
       gear.known_more m.kept.reserved m.kept.enrolled (m.kept.reserved ++ (a, r) ∷ []) m.kept.enrolled gs (λ x has. has_before m.kept.reserved (a, r) x has)
           (λ x has. has) v.known,
       v.clear,
@@ -61,8 +53,7 @@ committed g m (Enrol b r) o gs calm (inl asked) free last by one holds = go o by
   go (Commit x) by (a, has, is) = released asked.1 where
     released : ((m.course.tally.passed.count ≡ 0) × AreTabledBelow m.course.from (m.kept.enrolled ++ (b, r) ∷ []) gs) ⊎ IsOwn m.kept b r
         → GoesTo g (with_kept m (Enrol b r)) (Commit x) gs
-    released (inl first) =
-        subst (λ y. GoesTo g (with_kept m (Enrol b r)) (Commit y) gs) (sym is) (calm, (asked.0, first))
+    released (inl first) = subst (λ y. GoesTo g (with_kept m (Enrol b r)) (Commit y) gs) (sym is) (calm, (asked.0, first))
     released (inr own) = goes (Commit x) by own
   go (Done e) by never = absurd never
   go (Halt why) by never = absurd never
@@ -127,8 +118,7 @@ first_acts g m o gs last by one holds v =
 
 -- who is known, once a frame was heard
 abbrev KnownTo : ℕ → Purpose → Stage → Kept → Shorts → Course → List Gear → List ℕ → Command → Answer → Type 0
-KnownTo g p s k heard c gs numbers d h =
-    KnownAt g p (next_stage s d h) k (heard_after p (next_stage s d h) h heard) c (row_after Everyone d 0 gs numbers)
+KnownTo g p s k heard c gs numbers d h = KnownAt g p (next_stage s d h) k (heard_after p (next_stage s d h) h heard) c (row_after Everyone d 0 gs numbers)
 
 stands_heard : (g : ℕ) (m : Machine) (f : Forward) (h : Answer) (gs : List Gear) (numbers : List ℕ) → MisheardStands false g m gs → IsLawful m.trace f
     → SentTo g m.course.purpose (stage_of m.trace) m.kept m.heard m.course m.silent gs numbers (command_of f) h
@@ -273,5 +263,4 @@ ends_truly g s c es e there a rounds ended m is =
 
 -- it goes on, and never halts
 pub goes_on : (g : ℕ) (s : SiteState) (c : ℕ) (es : List Event) → g < length (world s).gear → IsAlone s c → RoundsBut g s c es → GoesOn true (site_after s es) c
-goes_on g s c es there a rounds =
-    goes_by IsFound (Holds g) true (site_after s es) c (runs_all g s c es (starts g s c there a) rounds) (λ m why holds. holds.0)
+goes_on g s c es there a rounds = goes_by IsFound (Holds g) true (site_after s es) c (runs_all g s c es (starts g s c there a) rounds) (λ m why holds. holds.0)

@@ -20,8 +20,7 @@ use Rattle.dali_progress.proofs.{Surveying.{quiet_draw, AskedTo, asked_sent, qui
 
 random_left : (d : Command) (gs : List Gear) (numbers : List ℕ) → LeavesNames d → (k : ℕ) → k < length gs
     → (gear_of (row_after Everyone d 0 gs numbers) k).random ≡ (gear_of gs k).random
-random_left d gs numbers leaves k there =
-    after_at d (λ y z. z.random ≡ y.random) (λ y off. refl) (λ y x on. (names_left d y x leaves).2) gs numbers k there
+random_left d gs numbers leaves k there = after_at d (λ y z. z.random ≡ y.random) (λ y off. refl) (λ y x on. (names_left d y x leaves).2) gs numbers k there
 
 drawn_left : (d : Command) (gs : List Gear) (numbers : List ℕ) → LeavesNames d → HaveDrawn gs → HaveDrawn (row_after Everyone d 0 gs numbers)
 drawn_left d gs numbers leaves =
@@ -34,8 +33,7 @@ served_left g d gs numbers leaves all k in_row other on = short_left d gs number
 -- ---------------------------------------------------------------- the roll call
 
 abbrev pub CalledTo : ℕ → Stage → Course → ℕ → List Gear → List ℕ → Command → Answer → Type 0
-CalledTo g s c silent gs numbers d h =
-    Calls g (next_stage s d h) c (silent_after (next_stage s d h) c.opened silent) (row_after Everyone d 0 gs numbers)
+CalledTo g s c silent gs numbers d h = Calls g (next_stage s d h) c (silent_after (next_stage s d h) c.opened silent) (row_after Everyone d 0 gs numbers)
 
 roll_of : (g : ℕ) (s : Stage) (k : Kept) (c : Course) (silent : ℕ) (gs : List Gear) (numbers : List ℕ) (d : Command) (h : Answer) → Calls g s c silent gs
     → Sends k c.number Calling s d → Taken g d gs numbers h → Seeks s gs → RollSent s c.number gs numbers d h
@@ -57,18 +55,15 @@ calls_sent g s k c silent gs numbers d h v there to = record {
 -- ---------------------------------------------------------------- gear draw
 
 abbrev pub DrawnTo : Purpose → Stage → Course → ℕ → List Gear → List ℕ → Command → Answer → Type 0
-DrawnTo p s c silent gs numbers d h =
-    Draws p (next_stage s d h) c (silent_after (next_stage s d h) c.opened silent) (row_after Everyone d 0 gs numbers)
+DrawnTo p s c silent gs numbers d h = Draws p (next_stage s d h) c (silent_after (next_stage s d h) c.opened silent) (row_after Everyone d 0 gs numbers)
 
 draw_of : (g : ℕ) (s : Stage) (k : Kept) (c : Course) (silent : ℕ) (gs : List Gear) (numbers : List ℕ) (d : Command) (h : Answer) → Draws Drawing s c silent gs
     → Sends k c.number Drawing s d → Taken g d gs numbers h → DrawSent Drawing s c.number gs numbers d h
-draw_of g s k c silent gs numbers d h v is t =
-    draw_sent s c.number k gs numbers d h v.draw (sends_of Drawing c.number k s d is) (but_taken g d gs numbers h t)
+draw_of g s k c silent gs numbers d h v is t = draw_sent s c.number k gs numbers d h v.draw (sends_of Drawing c.number k s d is) (but_taken g d gs numbers h t)
 
 open_of : (g : ℕ) (s : Stage) (k : Kept) (c : Course) (silent : ℕ) (gs : List Gear) (numbers : List ℕ) (d : Command) (h : Answer) → Draws Opening s c silent gs
     → Sends k c.number Opening s d → Taken g d gs numbers h → DrawSent Opening s c.number gs numbers d h
-open_of g s k c silent gs numbers d h v is t =
-    open_sent s c.number k gs numbers d h v.draw (sends_of Opening c.number k s d is) (but_taken g d gs numbers h t)
+open_of g s k c silent gs numbers d h v is t = open_sent s c.number k gs numbers d h v.draw (sends_of Opening c.number k s d is) (but_taken g d gs numbers h t)
 
 draws_sent : (p : Purpose) (s : Stage) (c : Course) (silent : ℕ) (gs : List Gear) (numbers : List ℕ) (d : Command) (h : Answer) → IsDraws p
     → Draws p s c silent gs → DrawSent p s c.number gs numbers d h → DrawnTo p s c silent gs numbers d h
@@ -147,8 +142,7 @@ at_sent g (Resolving a) s k heard c silent gs numbers d h at known is t told see
 
 -- it leaves numbers and short addresses, or gear draw; or it gives an address that is reserved
 abbrev pub Does : Kept → Stage → List Gear → Command → Type 0
-Does k s gs d =
-    DrawsBy d gs ⊎ ((r : SearchAddress) × (a : ℕ) × (s ≡ stage.Unnamed r) × (d ≡ Program (Some a)) × Has k.reserved (a, value_of r))
+Does k s gs d = DrawsBy d gs ⊎ ((r : SearchAddress) × (a : ℕ) × (s ≡ stage.Unnamed r) × (d ≡ Program (Some a)) × Has k.reserved (a, value_of r))
 
 does_by : (p : Purpose) (n : SearchAddress) (s : Stage) (k : Kept) (gs : List Gear) (d : Command) → IsDry p → Sends k n p s d → Does k s gs d
 does_by p n s k gs d dry is = go (is_unnamed s) where

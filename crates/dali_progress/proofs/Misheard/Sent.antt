@@ -1,15 +1,14 @@
 use Rattle.dali_progress.proofs.Below.{◌≡◌, ℕ, ◌+◌, ◌-◌, ◌*◌, ◌<◌, ◌≤◌, inl, inr, Bool, true, false, List, refl, sym, subst, ◌∙◌, arith, length, Option, Some}
-use Rattle.dali_progress.proofs.Below.{None, ◌==◌, ◌%◌, not, if◌then◌else◌, value_of, MASK24, Answer, SearchAddress, Command, Compare, SearchHigh, SearchMiddle}
+use Rattle.dali_progress.proofs.Below.{None, ◌==◌, not, if◌then◌else◌, value_of, MASK24, Answer, SearchAddress, Command, Compare, SearchHigh, SearchMiddle}
 use Rattle.dali_progress.proofs.Below.{SearchLow, QueryShort, Gear, row_after, draws_needed, drawn_of, answers_of, heard_of, Everyone, Kept, Has, next_stage}
-use Rattle.dali_progress.proofs.Below.{Stage, Ascent, asked_next, one_if, Gives, Course, is_yes, sought, byte_to_send, silent_after, is_failed, Sends, Purpose}
-use Rattle.dali_progress.proofs.Below.{Hunting, PassingOver, Tally, gear_of, is_wanted, wants, SameCore, IsHeardBut}
+use Rattle.dali_progress.proofs.Below.{Stage, Ascent, asked_next, one_if, Gives, Course, is_yes, byte_to_send, silent_after, is_failed, Sends, Purpose, Hunting}
+use Rattle.dali_progress.proofs.{Below.{PassingOver, Tally, gear_of, is_wanted, wants, SameCore, IsHeardBut}, Frames.{Seeks, probe_says, gives_same, low_byte}}
+use Rattle.dali_progress.proofs.{Stands.some_is, Misheard.{Gear.{HaveDrawn, AreSought}, Stands.{IsCounted, HuntStage, Rises, IsReached, IsOfOne, HuntAt}}}
+use Rattle.dali_progress.proofs.{Misheard.Stands.{found_at, failed_at, IsQuietAt, IsFew, Hunts}, Survey.{Drawn.{AreNumbered, DrewApart}, Rising.IsByteSent}}
+use Rattle.dali_progress.proofs.{Survey.{Rising.byte_sent, Woken.{AreLow, IsByteLow, low_after}}, Surveying.IsTakenBut}
 use Rattle.dali_script.specs.declared.stage.Stage.TheVariants as stage
 use Rattle.dali_events.proofs.Search.Leaving as leaving
 use Rattle.dali_progress.proofs.Misheard.Gear as gear
-use Rattle.dali_progress.proofs.{Frames.{Seeks, probe_says, gives_same}, Stands.some_is, Misheard.Gear.{HaveDrawn, AreSought}, Misheard.Stands.IsCounted}
-use Rattle.dali_progress.proofs.Misheard.Stands.{HuntStage, Rises, IsReached, IsOfOne, HuntAt, found_at, failed_at, IsQuietAt, IsFew, Hunts}
-use Rattle.dali_progress.proofs.{Survey.Drawn.{AreNumbered, DrewApart}, Survey.Rising.{IsByteSent, byte_sent}, Survey.Woken.{AreLow, IsByteLow, low_after}}
-use Rattle.dali_progress.proofs.{Surveying.IsTakenBut}
 
 -- A FRAME IS SENT, and each gear with power takes it.
 
@@ -83,14 +82,12 @@ pub told_hunts : (g : ℕ) (p : Purpose) (t : Stage) (c : Course) (silent : ℕ)
     → IsFew p g c.tally gs → AreLow gs → AreSought g (found_at t c.ascent) gs → HuntAt true g p t c.ascent c.number gs
     → Hunts true g p t c (silent_after t c.opened silent) gs
 told_hunts g p t c silent gs opened counted few low sought_are at = record {
-  opened_is = opened;
-  counted = subst (λ b. IsCounted g c.tally (silent_after t b silent) (failed_at t) gs) (sym opened) (counted_told t g c.tally silent gs counted);
-  few = few;
-  low = low;
-  sought_are = sought_are;
+  hunted = record { opened_is = opened; counted = all; few = few; low = low; sought_are = sought_are };
   quiet = subst (λ b. IsQuietAt t (silent_after t b silent)) (sym opened) (quiet_told t silent);
   at = at;
-}
+} where
+  all : IsCounted g c.tally (silent_after t c.opened silent) (failed_at t) gs
+  all = subst (λ b. IsCounted g c.tally (silent_after t b silent) (failed_at t) gs) (sym opened) (counted_told t g c.tally silent gs counted)
 
 pub few_on : (p : Purpose) (g : ℕ) (y : Tally) (gs hs : List Gear) → (is_wanted (gear_of hs g) ≡ true → is_wanted (gear_of gs g) ≡ true) → IsFew p g y gs
     → IsFew p g y hs
@@ -124,11 +121,6 @@ hunts_core g p s t c silent gs numbers d v failed was now same byte there at =
   where
     hs : List Gear
     hs = row_after Everyone d 0 gs numbers
-
-pub low_byte : (n : SearchAddress) (v : ℕ) → n ≡ sought v → n.low < 256
-low_byte n v is = subst (λ (m : SearchAddress). m.low < 256) (sym is) (low v) where
-  low : (r : ℕ) → r % 256 < 256
-  low r = omega arith
 
 -- ---------------------------------------------------------------- the search that goes up
 
@@ -194,8 +186,7 @@ pub hunting_sent : (g : ℕ) (s : Stage) (k : Kept) (c : Course) (silent : ℕ) 
 hunting_sent g stage.Free k c silent gs numbers d h v is t seek =
     subst (λ e. HuntedTo g Hunting stage.Free c silent gs numbers e h) (sym is.0)
     (hunts_core g Hunting stage.Free (stage.HighSent c.number.high) c silent gs numbers (SearchHigh c.number.high) v refl refl refl
-    (leaving.core_after (SearchHigh c.number.high) gs numbers tt) tt t.there
-    (rises_core g stage.Free (stage.HighSent c.number.high) c.ascent c.number gs _ v.at
+    (leaving.core_after (SearchHigh c.number.high) gs numbers tt) tt t.there (rises_core g stage.Free (stage.HighSent c.number.high) c.ascent c.number gs _ v.at
     (leaving.core_after (SearchHigh c.number.high) gs numbers tt) tt))
 hunting_sent g (stage.HighSent high) k c silent gs numbers d h v is t seek =
     subst (λ e. HuntedTo g Hunting (stage.HighSent high) c silent gs numbers e h) (some_is (SearchLow c.number.low) d is.0)

@@ -155,12 +155,17 @@ abbrev pub IsFew : Purpose → ℕ → Tally → List Gear → Type 0
 IsFew PassingOver g y gs = Unit {0}
 IsFew p g y gs = is_wanted (gear_of gs g) ≡ true → y.passed.count ≤ y.calls + y.draws
 
-pub record Hunts (told : Bool) (g : ℕ) (p : Purpose) (s : Stage) (c : Course) (silent : ℕ) (gs : List Gear) : Type 0 where
-  pub opened_is : c.opened ≡ true
-  pub counted : IsCounted g c.tally silent (failed_at s) gs
-  pub few : IsFew p g c.tally gs
+-- what is known while gear are hunted, whichever transaction is to come
+pub record Hunted (g : ℕ) (F : Type 0) (opened : Bool) (y : Tally) (silent more found : ℕ) (gs : List Gear) : Type 0 where
+  pub opened_is : opened ≡ true
+  pub counted : IsCounted g y silent more gs
+  pub few : F
   pub low : AreLow gs
-  pub sought_are : AreSought g (found_at s c.ascent) gs
+  pub sought_are : AreSought g found gs
+
+pub record Hunts (told : Bool) (g : ℕ) (p : Purpose) (s : Stage) (c : Course) (silent : ℕ) (gs : List Gear) : Type 0 where
+  pub hunted : Hunted g (IsFew p g c.tally gs) c.opened c.tally silent (failed_at s) (found_at s c.ascent) gs
+  pub open hunted use *
   pub quiet : IsQuietAt s silent
   pub at : HuntAt told g p s c.ascent c.number gs
 
@@ -201,8 +206,7 @@ AreTabledBelow f enrolled gs = Each gs (IsTabled f enrolled)
 
 -- LATER each address of the block is taken, and each gear is known.
 abbrev pub IsCensus : ℕ → Tally → Kept → Shorts → List Gear → Type 0
-IsCensus f y k heard gs =
-    ((y.passed.count ≡ 0) × AreTabledBelow f k.enrolled gs) ⊎ (AreKnown k.reserved k.enrolled gs × AreTaken k heard)
+IsCensus f y k heard gs = ((y.passed.count ≡ 0) × AreTabledBelow f k.enrolled gs) ⊎ (AreKnown k.reserved k.enrolled gs × AreTaken k heard)
 
 pub record Census (a : ℕ) (s : Stage) (k : Kept) (heard : Shorts) (c : Course) (gs : List Gear) : Type 0 where
   pub ask : IsAskedOf a s k heard gs

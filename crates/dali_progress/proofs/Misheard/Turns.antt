@@ -34,8 +34,7 @@ tabled_next : (f : ℕ) (xs ys : List Assignment) (gs : List Gear) → ((x : Ass
     → ((i : ℕ) → Holds gs i f → (gear_of gs i).random < MASK24 → Has ys (f, (gear_of gs i).random)) → AreTabledBelow (f + 1) ys gs
 tabled_next f xs ys gs more below here i there on a low short drew = go (nat_lt a f) refl where
   go : (b : Bool) → nat_lt a f ≡ b → Has ys (a, (gear_of gs i).random)
-  go true under =
-      more (a, (gear_of gs i).random) (below i there on a (let less : a < f = grind (arith, nat_tests, under) in less) short drew)
+  go true under = more (a, (gear_of gs i).random) (below i there on a (let less : a < f = grind (arith, nat_tests, under) in less) short drew)
   go false over =
       let past : f ≤ a = grind (arith, nat_tests, over) in
       let same : a ≡ f = omega (arith, past, low) in
@@ -76,8 +75,7 @@ own_by k b n gs kept known one small drew fresh a has =
   where
     go : Has k.enrolled (b, n) ⊎ Has k.reserved (b, n) → a ≡ b
     go (inl entry) = absurd (fresh (has_address k.enrolled b n entry))
-    go (inr entry) =
-        ap (λ (x : Assignment). x.0) (same_member (λ (x : Assignment). x.1) k.reserved (a, n) (b, n) kept.reserved.random_once has entry refl)
+    go (inr entry) = ap (λ (x : Assignment). x.0) (same_member (λ (x : Assignment). x.1) k.reserved (a, n) (b, n) kept.reserved.random_once has entry refl)
 
 -- three bytes told a number
 told_turns : (g : ℕ) (t : Machine) (o : Order) (a b n : ℕ) (gs : List Gear) → IsGivenBy t o → MisheardStands true g t gs → IsAtHand t.kept gs
@@ -135,8 +133,7 @@ told_turns g t o a b n gs by st hand agreed purpose is v w = go (nat_lt n MASK24
         holds.on,
         subst (λ c. (gear_of gs w.ask.asked.1.0).short ≡ Some c) (sym w.ask.asked.0) holds.short,
         sym number,
-      )
-          (subst (λ c. c < 64) (sym w.ask.asked.0) w.ask.small) small fresh.0),
+      ) (subst (λ c. c < 64) (sym w.ask.asked.0) w.ask.small) small fresh.0),
     )
 
   follows : (q : Order) → IsGivenBy t q → n < MASK24 → AfterFinding t b n q → GoesTo g t q gs
@@ -215,8 +212,7 @@ blocked_turns g t o r h room gs st v known begins next is_blocked_now = go (nat_
   by b e = next ∙ ap (λ q. if q then opening_at_last t.course else closing_by t.course GaveUp) e
 
   closes : may_draw t ≡ false → EndsBy g GaveUp t.kept t.heard gs → GoesTo g t o gs
-  closes none well =
-      first_by g t o (closing_by t.course GaveUp) gs st.calm begins (by false none) st.calm.way (record { stage_is = tt; well = well }) known.0
+  closes none well = first_by g t o (closing_by t.course GaveUp) gs st.calm begins (by false none) st.calm.way (record { stage_is = tt; well = well }) known.0
 
   go : (a : Bool) → nat_lt t.course.tally.draws 3 ≡ a → (b : Bool) → has_open t ≡ b → GoesTo g t o gs
   go true few true free =
@@ -236,8 +232,7 @@ blocked_turns g t o r h room gs st v known begins next is_blocked_now = go (nat_
       most : (silent one count calls draws : ℕ) → silent + one ≤ 2 * count + 1 + 20 * draws + 0 → count ≤ calls + draws + 1 → calls ≤ 3 → draws < 3
           → silent ≤ 2 * 0 + 20 * 3
       most silent one count calls draws quiet passed calls_few draws_few = omega (arith, quiet, passed, calls_few, draws_few)
-  go true few false full =
-      closes (rw (few, full) refl) (inr (all_taken t.kept t.heard (nothing_open t full)))
+  go true few false full = closes (rw (few, full) refl) (inr (all_taken t.kept t.heard (nothing_open t full)))
   go false spent b free = closes (rw spent refl) (served known.1) where
     drew : 0 < t.course.tally.draws
     drew = some t.course.tally.draws (let over : t.course.tally.draws < 3 → ⊥ = grind (arith, nat_tests, spent) in over) where
@@ -247,6 +242,9 @@ blocked_turns g t o r h room gs st v known begins next is_blocked_now = go (nat_
     served : IsSpent g t.course.tally t.kept t.heard gs → EndsBy g GaveUp t.kept t.heard gs
     served (inl all) = inl (all passed drew)
     served (inr filled) = inr filled
+
+one_past : (n m : ℕ) → n ≤ m → n ≤ m + 1
+one_past n m less = omega (arith, less)
 
 answered_call : (g : ℕ) (t : Machine) (o : Order) (r : SearchAddress) (h : Answer) (room : ℕ) (gs : List Gear) → IsGivenBy t o → MisheardStands true g t gs
     → t.course.purpose ≡ Calling → stage_of t.trace ≡ stage.Hunted r (Some h) room → Calls g (stage.Hunted r (Some h) room) t.course t.silent gs
@@ -268,21 +266,17 @@ answered_call g t o r h room gs by st purpose is v over = go (is_yes h) refl whe
       known
 
   heard_one : is_yes h ≡ true → (b : Bool) → is_blocked t.course.tally ≡ b → GoesTo g t o gs
-  heard_one heard_so true stuck =
-      blocked_turns g t o r h room gs st v known begins (heard_next t r h room true is purpose heard_so stuck) stuck
+  heard_one heard_so true stuck = blocked_turns g t o r h room gs st v known begins (heard_next t r h room true is purpose heard_so stuck) stuck
   heard_one heard_so false free =
       let few = heard_few t.course.tally v.counted.calls v.counted.passed free in
       hunts_first g t o (record t.course { tally = heard_call t.course.tally }) gs st.calm begins
       (heard_next t r h room false is purpose heard_so free) st.calm.way v.opened_is (record {
         calls = few.0;
         draws = v.counted.draws;
-        passed = more t.course.tally.passed.count ((heard_call t.course.tally).calls + t.course.tally.draws) few.1;
+        passed = one_past t.course.tally.passed.count ((heard_call t.course.tally).calls + t.course.tally.draws) few.1;
         quiet = v.counted.quiet;
         drawn = v.counted.drawn;
       }) few.1 v.roll.low (λ k there on. (v.roll.gear k there on).1) known.0
-    where
-      more : (n m : ℕ) → n ≤ m → n ≤ m + 1
-      more n m less = omega (arith, less)
 
   go : (b : Bool) → is_yes h ≡ b → GoesTo g t o gs
   go false quiet_so = silent_one quiet_so t.course.tally.is_silent refl
@@ -303,14 +297,11 @@ drawn_turns g t o p gs by st last is v known =
     (never_eight t.tries st.calm.untried)) (ap (begins_at t) is ∙ ap (λ y. searching_first y t.course) st.calm.way) st.calm.way v.opened_is (record {
       calls = v.counted.calls;
       draws = v.counted.draws;
-      passed = more t.course.tally.passed.count (t.course.tally.calls + t.course.tally.draws) v.counted.passed;
+      passed = one_past t.course.tally.passed.count (t.course.tally.calls + t.course.tally.draws) v.counted.passed;
       quiet = enough t.silent (one_if (not (is_failed t.course.tally.failed (gear_of gs g).random))) t.course.tally.passed.count t.course.tally.draws
           (one_most (not (is_failed t.course.tally.failed (gear_of gs g).random))) v.counted.quiet;
       drawn = λ some k there on. (v.draw.gear k there on).0;
     }) v.counted.passed v.draw.low (λ k there on. (v.draw.gear k there on).1) known
   where
-    more : (n m : ℕ) → n ≤ m → n ≤ m + 1
-    more n m less = omega (arith, less)
-
     enough : (silent one count draws : ℕ) → one ≤ 1 → silent ≤ 2 * count + 20 * draws → silent + one ≤ 2 * count + 1 + 20 * draws + 0
     enough silent one count draws most quiet = omega (arith, most, quiet)

@@ -3,17 +3,16 @@ use Rattle.dali_progress.proofs.Below.{◌==◌, ◌&&◌, ◌/◌, ◌%◌, nat
 use Rattle.dali_progress.proofs.Below.{SearchAddress, MASK, program_data, Command, Withdraw, SearchHigh, SearchMiddle, SearchLow, Program, QueryShort, Gear}
 use Rattle.dali_progress.proofs.Below.{row_after, answers_of, heard_of, Everyone, Kept, named, queried, verified, Stage, Ascent, Course, sought, silent_after}
 use Rattle.dali_progress.proofs.Below.{Sends, Purpose, Visiting, PassingOver, gear_of, is_wanted, wants, Seek, SameCore, after_program, programmed_wants}
-use Rattle.dali_progress.proofs.Below.{programs_at, after_withdraw, withdrawn_wants, withdraws_at, IsNoByte, IsHeardBut}
+use Rattle.dali_progress.proofs.{Below.{programs_at, after_withdraw, withdrawn_wants, withdraws_at, IsNoByte, IsHeardBut}, Frames.{Seeks, value_sought}}
+use Rattle.dali_progress.proofs.{Frames.{mask_queried, verified_short, short_given, short_kept, low_byte}, Stands.{some_is, HaveShort}, Later.queried_by}
+use Rattle.dali_progress.proofs.{Later.{verified_by, some_same}, Misheard.{Gear.{AreSought, AreBare, AreBareBut, AreNamedBut, HasOne}, Sent.Taken}}
+use Rattle.dali_progress.proofs.Misheard.{Sent.{counted_on, told_hunts, few_on, reached_core, own_core, hunts_core, HuntedTo}, Stands.{StageOf, IsCounted}}
+use Rattle.dali_progress.proofs.{Misheard.Stands.{IsReached, IsPast, IsOfOne, VisitStage, Visits, HuntAt, found_at, failed_at, Hunts}, Survey.Woken.low_after}
 use Rattle.dali_script.specs.Stages.{answered}
 use Rattle.dali_script.specs.declared.stage.Stage.TheVariants as stage
 use Rattle.dali_events.proofs.Search.Leaving as leaving
 use Rattle.dali_events.proofs.Search.Wanted as wanted
 use Rattle.dali_progress.proofs.Misheard.Gear as gear
-use Rattle.dali_progress.proofs.{Frames.{Seeks, value_sought, mask_queried, verified_short, short_given, short_kept}, Stands.{some_is, HaveShort}}
-use Rattle.dali_progress.proofs.{Later.{queried_by, verified_by}, Misheard.Gear.{AreSought, AreBare, AreBareBut, AreNamedBut, HasOne}, Misheard.Sent.Taken}
-use Rattle.dali_progress.proofs.Misheard.Sent.{counted_on, told_hunts, few_on, reached_core, own_core, hunts_core, low_byte, HuntedTo}
-use Rattle.dali_progress.proofs.Misheard.Stands.{StageOf, IsCounted, IsReached, IsPast, IsOfOne, VisitStage, Visits, HuntAt, found_at, failed_at, Hunts}
-use Rattle.dali_progress.proofs.{Survey.Woken.low_after}
 
 -- A FRAME OF A VISIT IS SENT. If it is gear g that is visited, anything may be heard of it; of any other it is heard what it
 -- answers.
@@ -23,16 +22,11 @@ use Rattle.dali_progress.proofs.{Survey.Woken.low_after}
 short_is : (a d : ℕ) → short_of (program_data (Some a)) ≡ Some d → a ≡ d
 short_is a d = go ((program_data (Some a) % 2 == 1) && nat_lt (program_data (Some a)) 128) where
   go : (b : Bool) → (if b then Some (program_data (Some a) / 2) else None) ≡ Some d → a ≡ d
-  go true e = let half : program_data (Some a) / 2 ≡ d = some_same (program_data (Some a) / 2) d e in omega (arith, half) where
-    some_same : (m n : ℕ) → Some m ≡ Some n → m ≡ n
-    some_same m n e = cc
+  go true e = let half : program_data (Some a) / 2 ≡ d = some_same (program_data (Some a) / 2) d e in omega (arith, half)
   go false e = absurd (cc)
 
 short_small : (v d : ℕ) → short_of v ≡ Some d → d < 64
 short_small v d = go ((v % 2 == 1) && nat_lt v 128) refl where
-  some_same : (m n : ℕ) → Some m ≡ Some n → m ≡ n
-  some_same m n e = cc
-
   below : nat_lt v 128 ≡ true → v < 128
   below e = grind (arith, nat_tests, e)
 
@@ -92,8 +86,7 @@ any_verified g x v a n r hs (Byte b) reached bare short small one = go (short_of
 
 -- who is visited: gear g, or another, whose answer is heard
 abbrev pub IsHeardOf : ℕ → ℕ → Option ℕ → List Gear → Answer → Type 0
-IsHeardOf g v o gs h =
-    (IsOfOne g v gs × ((gear_of gs g).powered ≡ true) × IsSaid (gear_of gs g).short h) ⊎ (h ≡ Byte (program_data o))
+IsHeardOf g v o gs h = (IsOfOne g v gs × ((gear_of gs g).powered ≡ true) × IsSaid (gear_of gs g).short h) ⊎ (h ≡ Byte (program_data o))
 
 visit_heard : (g v : ℕ) (n r : SearchAddress) (o : Option ℕ) (gs : List Gear) (numbers : List ℕ) (h : Answer) → Taken g QueryShort gs numbers h
     → wants gs v ≡ true → v < MASK24 → value_of r ≡ v → Seek gs r
@@ -103,8 +96,7 @@ visit_heard g v n r o gs numbers h t wants_it small same seek short = go (there.
   there = wanted.wants_at gs v wants_it
 
   answers : h ≡ heard_of (answers_of Everyone QueryShort 0 gs) → h ≡ Byte (program_data (gear_of gs there.0).short)
-  answers heard =
-      heard ∙ gear.query_is gs r there.0 seek t.apart (subst (λ m. m < MASK24) (sym same) small) there.1 there.2 (there.3 ∙ sym same)
+  answers heard = heard ∙ gear.query_is gs r there.0 seek t.apart (subst (λ m. m < MASK24) (sym same) small) there.1 there.2 (there.3 ∙ sym same)
 
   said : IsHeardBut g gs QueryShort h → IsSaid (gear_of gs there.0).short h
   said (inl heard) = inl (answers heard)
@@ -140,8 +132,7 @@ both_core g v x gs hs same both = (reached_core x v gs hs same both.0, gear.bare
 
 three_core : (g v : ℕ) (x : Ascent) (gs hs : List Gear) → SameCore gs hs → g < length gs → IsReached x v gs × AreBare g gs × IsOfOne g v gs
     → IsReached x v hs × AreBare g hs × IsOfOne g v hs
-three_core g v x gs hs same there all =
-    (reached_core x v gs hs same all.0, gear.bare_core g gs hs same all.1, own_core g v gs hs same there all.2)
+three_core g v x gs hs same there all = (reached_core x v gs hs same all.0, gear.bare_core g gs hs same all.1, own_core g v gs hs same there all.2)
 
 past_withdrawn : (x : Ascent) (v : ℕ) (gs : List Gear) (numbers : List ℕ) (r : SearchAddress) → Seek gs r → value_of r ≡ v → IsReached x v gs
     → IsPast x v (after_withdraw gs numbers)
@@ -282,8 +273,7 @@ visiting_sent g stage.Free k c silent gs numbers d h v is t seek =
     let same : SameCore gs (row_after Everyone (SearchHigh c.number.high) 0 gs numbers) = leaving.core_after (SearchHigh c.number.high) gs numbers tt in
     subst (λ e. HuntedTo g Visiting stage.Free c silent gs numbers e h) (sym is.0)
     (hunts_core g Visiting stage.Free (stage.HighSent c.number.high) c silent gs numbers (SearchHigh c.number.high) v refl refl refl same tt t.there
-    (visits_as g Visiting stage.Free (stage.HighSent c.number.high) c.ascent c.number gs _ v.at
-    (both_core g v.at.visited c.ascent gs _ same v.at.stage_is)))
+    (visits_as g Visiting stage.Free (stage.HighSent c.number.high) c.ascent c.number gs _ v.at (both_core g v.at.visited c.ascent gs _ same v.at.stage_is)))
 visiting_sent g (stage.HighSent high) k c silent gs numbers d h v is t seek =
     let same : SameCore gs (row_after Everyone (SearchMiddle c.number.middle) 0 gs numbers) = leaving.core_after (SearchMiddle c.number.middle) gs numbers tt in
     subst (λ e. HuntedTo g Visiting (stage.HighSent high) c silent gs numbers e h) (some_is (SearchMiddle c.number.middle) d is.0)
@@ -361,8 +351,7 @@ passing_sent g stage.Free k c silent gs numbers d h v is t seek =
 passing_sent g (stage.HighSent high) k c silent gs numbers d h v is t seek =
     let same : SameCore gs (row_after Everyone (SearchMiddle c.number.middle) 0 gs numbers) = leaving.core_after (SearchMiddle c.number.middle) gs numbers tt in
     subst (λ e. HuntedTo g PassingOver (stage.HighSent high) c silent gs numbers e h) (some_is (SearchMiddle c.number.middle) d is.0)
-    (hunts_core g PassingOver (stage.HighSent high) (stage.MiddleSent high c.number.middle) c silent gs numbers
-    (SearchMiddle c.number.middle) v refl refl refl
+    (hunts_core g PassingOver (stage.HighSent high) (stage.MiddleSent high c.number.middle) c silent gs numbers (SearchMiddle c.number.middle) v refl refl refl
     same tt t.there (visits_as g PassingOver (stage.HighSent high) (stage.MiddleSent high c.number.middle) c.ascent c.number gs _ v.at
     (three_core g v.at.visited c.ascent gs _ same t.there v.at.stage_is)))
 passing_sent g (stage.MiddleSent high middle) k c silent gs numbers d h v is t seek =

@@ -8,22 +8,20 @@ use Rattle.dali_progress.proofs.Below.{passing_over, missed, hunted, Machine, is
 use Rattle.dali_progress.proofs.Below.{undrawn, full, asks_again, has_open, may_draw, silenced, silenced_on, missed_again, is_failed, unanswered, most_silent}
 use Rattle.dali_progress.proofs.Below.{question, is_hunting, machine_ordered, AfterFinding, AfterMaskOn, AfterMaskBy, AfterReserved, asked_again, passed_over}
 use Rattle.dali_progress.proofs.Below.{drew, IsWhole, Purpose, Opening, Probing, Visiting, Resolving, Closing, Hunting, Asking, Calling, Drawing, PassingOver}
-use Rattle.dali_progress.proofs.Below.{Tally, IsGivenBy, IsNoEnrolment, HasShort, gear_of, is_wanted, wants, AreServedBut}
-use Rattle.dali_search.specs.declared.step.Step.{Step}
+use Rattle.dali_progress.proofs.{Below.{Tally, IsGivenBy, IsNoEnrolment, gear_of, is_wanted, wants, AreServedBut}, Accounted.open_is, Both.never_eight}
+use Rattle.dali_progress.proofs.{Both.close_ends, Frames.{value_sought, short_if}, Misheard.Begins.{KeepsPast, IsOwn, IsNext, later_by, turns_by, first_by}}
+use Rattle.dali_progress.proofs.Misheard.{Begins.{fills, hunts_above, hunts_on, GoesTo}, Stands.{Calm, AreSeen, IsCounted, Rises, IsReached, IsOfOne, Visits}}
+use Rattle.dali_progress.proofs.Misheard.{Stands.{Hunted, Hunts, At, Draws, MisheardStands, IsCountedFor, IsFew}, Gear.{AreSought, AreBare, HaveDrawn, HasOne}}
+use Rattle.dali_progress.proofs.{Misheard.Turns.{found_at, known_as, own_by, census_turns, calling_turns, drawn_turns}, Survey.Begins.clear_reserved}
+use Rattle.dali_progress.proofs.Survey.{Begins.{nobody_elses, begins_whole, all_taken}, Drawn.{AreNumbered, DrewApart}, Hunting.{found_same, begins_by}}
+use Rattle.dali_progress.proofs.Survey.{Hunting.{nothing_open, later_asked, vain_next, asked_where, hunted_next}, Queried.IsAtHand, Rising.knows_told}
+use Rattle.dali_progress.proofs.{Survey.{Stands.AreTaken, Turns.IsUncontradicted, Visits.{found_address, withheld_anothers, ungiven_next}}, Surveying.NoneDrawn}
+use Rattle.{dali_progress.proofs.Surveying.{roll_first, IsDraws, draw_over}, dali_search.specs.declared.step.Step.Step}
 use Rattle.dali_script.specs.declared.stage.Stage.TheVariants as stage
 use Rattle.dali_controller.proofs.Given as given
 use Rattle.dali_events.proofs.Search.Wanted as wanted
 use Rattle.dali_progress.proofs.Misheard.Climbing as climbing
 use Rattle.dali_progress.proofs.Misheard.Stands as stands
-use Rattle.dali_progress.proofs.{Accounted.open_is, Both.{never_eight, close_ends}, Frames.value_sought, Misheard.Begins.{KeepsPast, IsOwn, IsNext, later_by}}
-use Rattle.dali_progress.proofs.{Misheard.Begins.{turns_by, first_by, fills, hunts_above, hunts_on, GoesTo}, Misheard.Stands.{Calm, AreSeen, IsCounted, Rises}}
-use Rattle.dali_progress.proofs.{Misheard.Stands.{IsReached, IsOfOne, Visits, Hunts, At, Draws, MisheardStands, IsCountedFor}, Misheard.Gear.AreSought}
-use Rattle.dali_progress.proofs.{Misheard.Gear.{AreBare, HaveDrawn, HasOne}, Misheard.Turns.{found_at, known_as, own_by, census_turns, calling_turns}}
-use Rattle.dali_progress.proofs.{Misheard.Turns.drawn_turns, Survey.Begins.{clear_reserved, nobody_elses, begins_whole, all_taken}, Survey.Drawn.AreNumbered}
-use Rattle.dali_progress.proofs.{Survey.Drawn.DrewApart, Survey.Hunting.{found_same, begins_by, nothing_open, later_asked, vain_next, asked_where, hunted_next}}
-use Rattle.dali_progress.proofs.{Survey.Queried.IsAtHand, Survey.Rising.knows_told, Survey.Stands.AreTaken, Survey.Turns.IsUncontradicted}
-use Rattle.dali_progress.proofs.{Survey.Visits.{found_address, withheld_anothers, ungiven_next}, Survey.Woken.AreLow, Surveying.{NoneDrawn, roll_first}}
-use Rattle.dali_progress.proofs.Surveying.{IsDraws, draw_over}
 
 -- A CONTROLLER ACTS while gear are hunted and visited, and at its close; and in whatever transaction.
 
@@ -41,12 +39,9 @@ left_none gs k nobody there on enabled small =
     omega (arith, most, small)
 
 served_by : (g found : ℕ) (gs : List Gear) → AreSought g found gs → HaveDrawn gs → NobodyLeft gs → AreServedBut g gs
-served_by g found gs sought_are drawn nobody k there other on = go (gear_of gs k).short refl where
-  go : (o : Option ℕ) → (gear_of gs k).short ≡ o → HasShort (gear_of gs k)
-  go (Some a) e = (a, e)
-  go None e =
-      let small : (gear_of gs k).random < MASK24 = drawn k there on e in
-      absurd (left_none gs k nobody there on (sought_are k there on (λ same. absurd (other same)) e small) small)
+served_by g found gs sought_are drawn nobody k there other on = short_if (gear_of gs k) (λ e.
+    let small : (gear_of gs k).random < MASK24 = drawn k there on e in
+    left_none gs k nobody there on (sought_are k there on (λ same. absurd (other same)) e small) small)
 
 none_drawn : (g found : ℕ) (gs : List Gear) → AreSought g found gs → found ≡ 0 → AreNumbered gs → NobodyLeft gs → NoneDrawn gs
 none_drawn g found gs sought_are nothing numbered nobody k there on none = go (numbered k there) where
@@ -85,10 +80,8 @@ full_rests t c = go (asks_again t) where
 -- what is known when a hunt is over
 record IsOver (g : ℕ) (t : Machine) (gs : List Gear) : Type 0 where
   stands : MisheardStands true g t gs
-  opened_is : t.course.opened ≡ true
-  counted : IsCounted g t.course.tally t.silent 0 gs
-  low : AreLow gs
-  sought_are : AreSought g t.course.ascent.found gs
+  hunted : Hunted g (IsFew Hunting g t.course.tally gs) t.course.opened t.course.tally t.silent 0 t.course.ascent.found gs
+  open hunted use *
   hand : IsAtHand t.kept gs
   known : AreSeen t.kept t.heard gs
   nobody : NobodyLeft gs
@@ -123,8 +116,7 @@ vain_over g t o h r room gs asks next none v = go (has_open t) refl (nat_lt t.co
         };
       }) v.known
   go true free false spent = by t.course.tally.is_heard refl where
-    after : (b : Bool) → t.course.tally.is_heard ≡ b
-        → next_course t ≡ (if b then closing_by (hunted t.course h) GaveUp else calling (hunted t.course h))
+    after : (b : Bool) → t.course.tally.is_heard ≡ b → next_course t ≡ (if b then closing_by (hunted t.course h) GaveUp else calling (hunted t.course h))
     after b e = vain_next t h true false next free spent ∙ ap (λ q. if q then closing_by (hunted t.course h) GaveUp else calling (hunted t.course h)) e
 
     some : (n : ℕ) → nat_lt n 3 ≡ false → 0 < n
@@ -134,11 +126,7 @@ vain_over g t o h r room gs asks next none v = go (has_open t) refl (nat_lt t.co
     by true heard =
         first_by g t o (closing_by (hunted t.course h) GaveUp) gs calm
         (begins_by t o (closing_by (hunted t.course h) GaveUp) r room asks (after true heard) refl) (after true heard) v.stands.calm.way
-        (record {
-          stage_is = tt;
-          well = inl (served_by g t.course.ascent.found gs v.sought_are
-              (v.counted.drawn (some t.course.tally.draws spent)) v.nobody);
-        })
+        (record { stage_is = tt; well = inl (served_by g t.course.ascent.found gs v.sought_are (v.counted.drawn (some t.course.tally.draws spent)) v.nobody) })
         v.known
     by false unheard = found_over g t o h r room gs asks (after false unheard) v
   go false shut b few =
@@ -206,28 +194,22 @@ answered_turns g t o r h room gs by st hand purpose is v = go (leads_to (ascende
   next : (s : Step) → leads_to (ascended t.course.ascent (is_yes h)) ≡ s → next_course t ≡ hunted_to t s (hunted t.course h)
   next s e = hunted_next t h r room s purpose is e
 
-  sought_are : AreSought g (hunted t.course h).ascent.found gs
-  sought_are = subst (λ n. AreSought g n gs) (sym (found_same t.course.ascent (is_yes h))) v.sought_are
+  so_far : Hunted g (IsFew Hunting g t.course.tally gs) t.course.opened t.course.tally t.silent 0 (hunted t.course h).ascent.found gs
+  so_far =
+      subst (λ n. Hunted g (IsFew Hunting g t.course.tally gs) t.course.opened t.course.tally t.silent 0 n gs)
+      (sym (found_same t.course.ascent (is_yes h))) v.hunted
 
   again : (b : Bool) → nat_lt (bytes_to_send (hunting (hunted t.course h)).number r) room ≡ b → leads_to (ascended t.course.ascent (is_yes h)) ≡ Again
       → GoesTo g t o gs
   again true some e =
       goes_on g t o h r room gs st purpose is (next Again e) (asked_where t o h r room true asks (next Again e) some) (record {
-        opened_is = v.opened_is;
-        counted = v.counted;
-        few = v.few;
-        low = v.low;
-        sought_are = sought_are;
+        hunted = so_far;
         quiet = tt;
         at = record { is = ascent; knows = knows; running = e; number = refl; bare = p.bare; stage_is = tt };
       }) known
   again false none e =
       first_by g t o (hunting (hunted t.course h)) gs st.calm (asked_where t o h r room false asks (next Again e) none) (next Again e) st.calm.way (record {
-        opened_is = v.opened_is;
-        counted = v.counted;
-        few = v.few;
-        low = v.low;
-        sought_are = sought_are;
+        hunted = so_far;
         quiet = tt;
         at = record { is = ascent; knows = knows; running = e; number = refl; bare = p.bare; stage_is = tt };
       }) known
@@ -238,11 +220,7 @@ answered_turns g t o r h room gs by st hand purpose is v = go (leads_to (ascende
       let there = climbing.found_is (wants gs) (ascended t.course.ascent (is_yes h)) m knows e in
       first_by g t o (visiting (hunted t.course h) m) gs st.calm (begins_by t o (visiting (hunted t.course h) m) r room asks (next (Found m) e) refl)
       (next (Found m) e) st.calm.way (record {
-        opened_is = v.opened_is;
-        counted = v.counted;
-        few = v.few;
-        low = v.low;
-        sought_are = sought_are;
+        hunted = so_far;
         quiet = tt;
         at = record {
           visited = m;
@@ -254,10 +232,7 @@ answered_turns g t o r h room gs by st hand purpose is v = go (leads_to (ascende
   go Nobody e =
       hunt_over g t o h r room gs asks (next Nobody e) (record {
         stands = st;
-        opened_is = v.opened_is;
-        counted = v.counted;
-        low = v.low;
-        sought_are = v.sought_are;
+        hunted = v.hunted;
         hand = hand;
         known = known;
         nobody = climbing.nobody_is (wants gs) (ascended t.course.ascent (is_yes h)) ascent knows e;
@@ -319,8 +294,7 @@ failed_turns g t o s gs st apart v failed found w at known begins next = go (is_
 
         other : (silent one count calls draws : ℕ) → silent + one ≤ 2 * count + 1 + 20 * draws + 1 → count ≤ calls + draws → calls ≤ 3 → draws ≤ 3
             → (silent == 80) ≡ false
-        other silent one count calls draws quiet passed calls_few draws_few =
-            apart_from silent (omega (arith, quiet, passed, calls_few, draws_few))
+        other silent one count calls draws quiet passed calls_few draws_few = apart_from silent (omega (arith, quiet, passed, calls_few, draws_few))
 
   by : (b : Bool) → is_failed t.course.tally.failed (value_of t.course.number) ≡ b → next_course t ≡ missed_again b t.course
   by b e =
@@ -337,18 +311,7 @@ failed_turns g t o s gs st apart v failed found w at known begins next = go (is_
   go : (b : Bool) → is_failed t.course.tally.failed (value_of t.course.number) ≡ b → GoesTo g t o gs
   go true twice =
       first_by g t o (passing_over t.course) gs st.calm begins (by true twice) st.calm.way (record {
-        opened_is = v.opened_is;
-        counted = record {
-          calls = counted.calls;
-          draws = counted.draws;
-          passed = subst (λ n. n ≤ t.course.tally.calls + t.course.tally.draws + 1) (sym count) (more t.course.tally.passed.count _ few);
-          quiet = subst (λ n. t.silent + 1 ≤ 2 * n + 1 + 20 * t.course.tally.draws + 0) (sym count)
-              (enough t.silent t.course.tally.passed.count t.course.tally.draws (counted_so true twice));
-          drawn = counted.drawn;
-        };
-        few = tt;
-        low = v.low;
-        sought_are = sought_are;
+        hunted = record { opened_is = v.opened_is; counted = more_counted; few = tt; low = v.low; sought_are = sought_are };
         quiet = tt;
         at = record { visited = w.visited; number = w.number; drawn = w.drawn; stage_is = (at.0, at.1, at.2) };
       }) known
@@ -365,21 +328,19 @@ failed_turns g t o s gs st apart v failed found w at known begins next = go (is_
 
       enough : (silent count draws : ℕ) → silent + 0 ≤ 2 * count + 1 + 20 * draws + 1 → silent + 1 ≤ 2 * (count + 1) + 1 + 20 * draws + 0
       enough silent count draws quiet = omega (arith, quiet)
+
+      more_counted : IsCounted g (passed_over t.course.tally (value_of t.course.number)) t.silent 0 gs
+      more_counted = record {
+        calls = counted.calls;
+        draws = counted.draws;
+        passed = subst (λ n. n ≤ t.course.tally.calls + t.course.tally.draws + 1) (sym count) (more t.course.tally.passed.count _ few);
+        quiet = subst (λ n. t.silent + 1 ≤ 2 * n + 1 + 20 * t.course.tally.draws + 0) (sym count)
+            (enough t.silent t.course.tally.passed.count t.course.tally.draws (counted_so true twice));
+        drawn = counted.drawn;
+      }
   go false once =
       first_by g t o (missed t.course) gs st.calm begins (by false once) st.calm.way (record {
-        opened_is = v.opened_is;
-        counted = record {
-          calls = counted.calls;
-          draws = counted.draws;
-          passed = counted.passed;
-          quiet = subst (λ b. t.silent + one_if (not b) ≤ 2 * t.course.tally.passed.count + 1 + 20 * t.course.tally.draws + 0)
-              (sym (wanted.number_same (value_of t.course.number) (gear_of gs g).random own))
-              (enough t.silent t.course.tally.passed.count t.course.tally.draws (counted_so false once));
-          drawn = counted.drawn;
-        };
-        few = λ wanted_is. few;
-        low = v.low;
-        sought_are = sought_are;
+        hunted = record { opened_is = v.opened_is; counted = counted_once; few = λ wanted_is. few; low = v.low; sought_are = sought_are };
         quiet = tt;
         at = record {
           is = climbing.anew_is t.course.ascent at.0.is;
@@ -393,6 +354,17 @@ failed_turns g t o s gs st apart v failed found w at known begins next = go (is_
     where
       enough : (silent count draws : ℕ) → silent + 1 ≤ 2 * count + 1 + 20 * draws + 1 → silent + 0 ≤ 2 * count + 1 + 20 * draws + 0
       enough silent count draws quiet = omega (arith, quiet)
+
+      counted_once : IsCounted g (missed t.course).tally t.silent 0 gs
+      counted_once = record {
+        calls = counted.calls;
+        draws = counted.draws;
+        passed = counted.passed;
+        quiet = subst (λ b. t.silent + one_if (not b) ≤ 2 * t.course.tally.passed.count + 1 + 20 * t.course.tally.draws + 0)
+            (sym (wanted.number_same (value_of t.course.number) (gear_of gs g).random own))
+            (enough t.silent t.course.tally.passed.count t.course.tally.draws (counted_so false once));
+        drawn = counted.drawn;
+      }
 
 -- ---------------------------------------------------------------- a visit in which MASK was answered
 
@@ -429,19 +401,14 @@ unnamed_turns g t o r gs by st hand purpose is v =
           → (free : Option ℕ) → least_open t.kept t.heard ≡ free → AfterMaskBy t r given_to free o → GoesTo g t o gs
       go (Some a) has free least mask = choose (is_withheld t a (value_of r)) refl where
         choose : (b : Bool) → is_withheld t a (value_of r) ≡ b → GoesTo g t o gs
-        choose false free =
-            later_by g t o (stage.Unnamed r) (frame_of (Program (Some a))) gs st (subst (λ b. AfterReserved t a b o) free mask) is tt
+        choose false free = later_by g t o (stage.Unnamed r) (frame_of (Program (Some a))) gs st (subst (λ b. AfterReserved t a b o) free mask) is tt
         choose true withheld =
             absurd (let never : true ≡ false = sym (withheld_anothers t t.course.way a (value_of r) withheld)
             ∙ nobody_elses t.kept t.heard gs hand.holds hand.owned known.1 a (value_of r) has in cc)
       go None none (Some a) least mask = subst (λ q. GoesTo g t q gs) (sym mask) (
         st.calm,
         record {
-          opened_is = v.opened_is;
-          counted = v.counted;
-          few = v.few;
-          low = v.low;
-          sought_are = v.sought_are;
+          hunted = v.hunted;
           bare = w.stage_is.1;
           drawn = subst (λ m. m < MASK24) value w.drawn;
           reached = subst (λ m. IsReached t.course.ascent m gs) value w.stage_is.0;
@@ -485,8 +452,7 @@ withdrawn_turns g t o r a gs by st hand agreed purpose is v = go o by (by.ordere
       w.stage_is.4 (subst (λ m. m < MASK24) value w.drawn) fresh.0
 
   go : (q : Order) → IsGivenBy t q → AfterFinding t a (value_of r) q → GoesTo g t q gs
-  go (Put p f) by has =
-      hunts_on g t (Put p f) gs st.calm (given.withdrawn_known t (Put p f) r a by is hand.kept.enrolled has) (ap (begins_at t) is) keeps
+  go (Put p f) by has = hunts_on g t (Put p f) gs st.calm (given.withdrawn_known t (Put p f) r a by is hand.kept.enrolled has) (ap (begins_at t) is) keeps
   go (Commit x) by has =
       let may : IsFresh t.kept.enrolled (a, value_of r) = subst (λ y. MayAdd t.kept y) has by.ordered.allowed.may in
       subst (λ y. GoesTo g t (Commit y) gs) (sym has) (st.calm, inr (keeps, own may))

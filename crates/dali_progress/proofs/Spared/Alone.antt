@@ -18,19 +18,16 @@ power_taken reach x k (g ∷ gs) left zero = go (takes reach k g) where
   go : (b : Bool) → (one_after b x left g).powered ≡ g.powered
   go true = refl
   go false = refl
-power_taken reach x k (g ∷ gs) left (suc j) =
-    power_taken reach x (k + 1) gs (left_after (takes reach k g && draws_a_number x g) left) j
+power_taken reach x k (g ∷ gs) left (suc j) = power_taken reach x (k + 1) gs (left_after (takes reach k g && draws_a_number x g) left) j
 
 power_moved : (s : SiteState) (c : ℕ) (e : Event) → IsOfRound true s c e → HavePower s → (u : Used) → Has s.plan.used u
     → (gear_at (happens (world s) e) u.gear).powered ≡ true
 power_moved s c (event.Acted d i o) of power u has = power u has
-power_moved s c (event.Sent d f h) of power u has =
-    power_taken Everyone (command_of f) 0 (world s).gear (world s).left u.gear ∙ power u has
+power_moved s c (event.Sent d f h) of power u has = power_taken Everyone (command_of f) 0 (world s).gear (world s).left u.gear ∙ power u has
 power_moved s c _ of power u has = absurd of
 
 power_on : (s : SiteState) (c : ℕ) (e : Event) → IsOfRound true s c e → HavePower s → HavePower (site_logged s e)
-power_on s c e of power u has =
-    subst (λ (w : World). (gear_at w u.gear).powered ≡ true) (sym (world_logged s e)) (power_moved s c e of power u has)
+power_on s c e of power u has = subst (λ (w : World). (gear_at w u.gear).powered ≡ true) (sym (world_logged s e)) (power_moved s c e of power u has)
 
 -- ---------------------------------------------------------------- what it is due
 
@@ -72,10 +69,8 @@ all_in_peace : (start : Begun) (s : SiteState) (c left : ℕ) (es : List Event) 
 all_in_peace start s c left [] u power rounds = (tt, tt)
 all_in_peace start s c left (e ∷ es) u power rounds =
     let on = runs_on (of_survey start) (argument start) s c left e u rounds.0 rounds.1 in
-    let rest = all_in_peace start (site_logged s e) c on.rest es on.runs (power_on s c e rounds.1 power) rounds.2 in (
-      (rounds.0, call_of start s c left e u rounds.0 rounds.1, rest.0),
-      (peace_of s c e power rounds.1, rest.1),
-    )
+    let rest = all_in_peace start (site_logged s e) c on.rest es on.runs (power_on s c e rounds.1 power) rounds.2 in
+    ((rounds.0, call_of start s c left e u rounds.0 rounds.1, rest.0), (peace_of s c e power rounds.1, rest.1))
 
 -- ALONE AND UNDISTURBED it meets what is supposed of it
 pub alone_in_peace : (s : SiteState) (c : ℕ) (es : List Event) → IsAlone s c → HavePower s → Rounds true s c es

@@ -3,11 +3,9 @@ use Rattle.dali_progress.proofs.Below.{None, ◌==◌, ◌-◌, zero, suc, if◌
 use Rattle.dali_progress.proofs.Below.{SearchAddress, IsSpelled, Command, Initialise, Randomise, Compare, Withdraw, SearchHigh, SearchMiddle, SearchLow}
 use Rattle.dali_progress.proofs.Below.{Program, QueryShort, RandomByte, Part, High, Middle, Low, Unaddressed, Gear, answer, byte_at, takes, option_cons}
 use Rattle.dali_progress.proofs.Below.{answers_of, Everyone, next_stage, queried, verified, byte_heard, bytes_heard, number_heard, doubted, Stage, Hears}
-use Rattle.dali_progress.proofs.Below.{IsDrawer, AreDrawn, gear_of, World, gear_at, IsPlain}
-use Rattle.dali_gear.specs.Gear.{has_short}
-use Rattle.dali_script.specs.Stages.{hunted}
+use Rattle.dali_progress.proofs.{Below.{IsDrawer, AreDrawn, gear_of, World, gear_at, IsPlain}, Later.{queried_by, verified_by}}
+use Rattle.{dali_gear.specs.Gear.has_short, dali_script.specs.Stages.hunted}
 use Rattle.dali_script.specs.declared.stage.Stage.TheVariants as stage
-use Rattle.dali_progress.proofs.Later.{queried_by, verified_by}
 
 -- WHAT GEAR TELL OF A RANDOM ADDRESS ARE BYTES, so what a machine reads from three of them is a number to FFFFFF.
 

@@ -7,24 +7,19 @@ use Rattle.dali_progress.proofs.Below.{gone_down, come_up, kept_after, with_outs
 use Rattle.dali_progress.proofs.Below.{controllers_changed, controller_begun, nobody, Event, are_drawn, draws_after, Waits, MayAnswer, LeavesWhole}
 use Rattle.dali_progress.proofs.Below.{ReservesUsed, machine_in, machines_at, machines_after, SiteState, opened_site, world, machines, machine_at, site_logged}
 use Rattle.dali_progress.proofs.Below.{IsActRefused, changed_at, none_set, some_set, by_place, site_after, IsOfCall, AreOfCalls, HasJustBegun, IsUsedOf}
-use Rattle.dali_progress.proofs.Below.{BeginsBySurveys, asks_first, is_silence, silences_after, IsHeardInTime, HearsUsed}
+use Rattle.dali_progress.proofs.{Below.{BeginsBySurveys, asks_first, is_silence, silences_after, IsHeardInTime, HearsUsed}, Logged.world_logged}
+use Rattle.dali_progress.proofs.{Logged.{machines_logged, some_within}, Lone.acted_there, Spared.Bytes.{AreSmall, drawn_small, IsByteOf, byte_heard_of}}
+use Rattle.dali_progress.proofs.Spared.Lives.{IsWellHeard, IsFair, IsFewAt, Lives, lives_first, lives_told, lives_more, counted_asked, lives_acted, leaves_used}
+use Rattle.dali_progress.proofs.Later.{some_same}
 use Rattle.dali_script.specs.declared.orders.Input.TheVariants as input
 use Rattle.dali_events.specs.declared.event.Event.TheVariants as event
 use Rattle.dali_standing.specs.declared.refusal.Refusal.TheVariants as refusal
-use Rattle.dali_progress.proofs.{Logged.{world_logged, machines_logged, some_within}, Lone.acted_there, Spared.Bytes.{AreSmall, drawn_small, IsByteOf}}
-use Rattle.dali_progress.proofs.{Spared.Bytes.byte_heard_of, Spared.Lives.{IsWellHeard, IsFair, IsFewAt, Lives, lives_first, lives_told, lives_more}}
-use Rattle.dali_progress.proofs.Spared.Lives.{counted_asked, lives_acted, leaves_used}
 
 -- EACH EVENT THAT CALLS ADD goes on with the life of a controller that surveys and hears the used gear.
 
 -- the life of controller c, while it is up
 abbrev pub IsLived : (ℕ → Type 0) → Block → (ℕ → ℕ) → World → List (Option Machine) → ℕ → Type 0
 IsLived U z v w ms c = (m : Machine) → machine_in ms c ≡ Some m → Lives U z v (controller_at w c) m
-
--- ---------------------------------------------------------------- lists with a change at one place
-
-pub some_same : (n m : Machine) → Some n ≡ Some m → n ≡ m
-some_same n m e = cc
 
 -- ---------------------------------------------------------------- another controller's event
 
@@ -214,8 +209,7 @@ counts_after c v e a = silences_after c a (v a) e
 -- what is supposed of it: it begins by surveys, and hears the used gear in time while it asks short addresses
 abbrev pub Heeds : SiteState → ℕ → (ℕ → ℕ) → Event → Type 0
 Heeds s c v (event.Acted d i o) = d ≡ c → i ≡ input.Start → ⊥
-Heeds s c v (event.Sent d f h) =
-    (m : Machine) → machine_at s c ≡ Some m → (a : ℕ) → IsUsedOf s.plan c a → IsFewAt (counts_after c v (event.Sent d f h)) m a
+Heeds s c v (event.Sent d f h) = (m : Machine) → machine_at s c ≡ Some m → (a : ℕ) → IsUsedOf s.plan c a → IsFewAt (counts_after c v (event.Sent d f h)) m a
 Heeds s c v _ = Unit {0}
 
 hears_heeds : (s : SiteState) (c : ℕ) (v : ℕ → ℕ) (e : Event) → BeginsBySurveys c e → ((a : ℕ) → IsUsedOf s.plan c a → counts_after c v e a < 3) → Heeds s c v e
@@ -339,8 +333,7 @@ pub unrefused_now : (s : SiteState) (c : ℕ) (v : ℕ → ℕ) (i : Input) → 
 unrefused_now s c v i plan l refused = go (machine_at s c) refl refused.4.0 (refused.4.1, refused.4.2) where
   go : (x : Option Machine) → machine_at s c ≡ x → (o : Order) → MayAnswer (machine_at s c) i o × ReservesUsed s.plan.used o → ⊥
   go None has o of = elim (subst (λ x. MayAnswer x i o) has of.0) [ ]
-  go (Some m) has o of =
-      leaves_now s c v m i o plan (l.lives m has) refused.1 (subst (λ x. MayAnswer x i o) has of.0) of.1
+  go (Some m) has o of = leaves_now s c v m i o plan (l.lives m has) refused.1 (subst (λ x. MayAnswer x i o) has of.0) of.1
 
 -- the life of a controller that surveys and hears the used gear goes on
 pub lived_all : (s : SiteState) (c : ℕ) (v : ℕ → ℕ) (es : List Event) → IsPlan s.plan → IsLivedAt s c v → AreOfCalls s es
@@ -349,8 +342,7 @@ pub lived_all : (s : SiteState) (c : ℕ) (v : ℕ → ℕ) (es : List Event) �
 lived_all s c v [] plan l are begin hear P known = known s v plan l
 lived_all s c v (e ∷ es) plan l are begin hear P known =
     lived_all (site_logged s e) c (counts_after c v e) es plan
-    (lived_on s c v e plan are.0 are.1 begin.0 (λ a used. let few = (hear a used).0 in omega (arith, few)) l) are.2 begin.1
-    (λ a used. (hear a used).1) P known
+    (lived_on s c v e plan are.0 are.1 begin.0 (λ a used. let few = (hear a used).0 in omega (arith, few)) l) are.2 begin.1 (λ a used. (hear a used).1) P known
 
 pub unrefused_lived : (s : SiteState) (c : ℕ) (v : ℕ → ℕ) (es : List Event) (i : Input) → IsPlan s.plan → IsLivedAt s c v → AreOfCalls s es
     → AllByRecursion (BeginsBySurveys c) es → ((a : ℕ) → IsUsedOf s.plan c a → IsHeardInTime c a (v a) es)

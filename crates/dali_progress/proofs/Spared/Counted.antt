@@ -3,10 +3,10 @@ use Rattle.dali_progress.proofs.Below.{nat_lt, if◌then◌else◌, nat_tests, A
 use Rattle.dali_progress.proofs.Below.{finding_of, stage_of, byte_heard, finding_at, Input, Order, Put, Commit, Record, Enrol, Stage, stage_none, Machine}
 use Rattle.dali_progress.proofs.Below.{machine_told, machine_heard, machine_committed, asked_at, asked_after, asked_after_silence, next_course, course_by}
 use Rattle.dali_progress.proofs.Below.{begins_at, at_rest, asked_once, IsGiven, IsAllowed, machine_after, machine_ordered, asked_by, IsWhole, Purpose, Asking}
+use Rattle.dali_progress.proofs.Census.{Asked.by_kind, Coming.{IsEnded, Hearing, hearing_of, none_found, no_record, over_ends}, Course.put_is}
+use Rattle.dali_progress.proofs.Later.{IsUnasked, course_stays, asked_none}
 use Rattle.dali_script.specs.declared.orders.Input.TheVariants as input
 use Rattle.dali_script.specs.declared.stage.Stage.TheVariants as stage
-use Rattle.dali_progress.proofs.{Census.Asked.by_kind, Census.Coming.{IsEnded, Hearing, hearing_of, none_found, no_record, over_ends}, Census.Course.put_is}
-use Rattle.dali_progress.proofs.Later.{IsUnasked, course_stays}
 
 -- HOW OFTEN IN A ROW the address that is asked was silent is at most how often it was silent at all, by a count that only grows.
 
@@ -15,8 +15,7 @@ IsPut last = (p : ℕ) × (f : Forward) × (last ≡ Some (Put p f))
 
 -- U is the gear that it concerns, and n the count of each address
 abbrev pub IsCounted : (ℕ → Type 0) → (ℕ → ℕ) → Machine → Type 0
-IsCounted U n m =
-    (m.asked ≡ 0) ⊎ (IsEnded m ⊎ ((b : ℕ) × (m.course.purpose ≡ Asking b) × IsPut m.last × (U b → m.asked ≤ n b)))
+IsCounted U n m = (m.asked ≡ 0) ⊎ (IsEnded m ⊎ ((b : ℕ) × (m.course.purpose ≡ Asking b) × IsPut m.last × (U b → m.asked ≤ n b)))
 
 pub counted_more : (U : ℕ → Type 0) (n n' : ℕ → ℕ) (m : Machine) → ((a : ℕ) → U a → n a ≤ n' a) → IsCounted U n m → IsCounted U n' m
 counted_more U n n' m more (inl zero) = inl zero
@@ -30,8 +29,7 @@ stays_or_ends : (t : Machine) (b : ℕ) (s : Stage) → t.course.purpose ≡ Ask
     → IsEnded (machine_ordered t o) ⊎ (((machine_ordered t o).course.purpose ≡ Asking b) × IsPut (machine_ordered t o).last)
 stays_or_ends t b s purpose same at unasked named none last =
     by_kind t (λ o. IsEnded (machine_ordered t o) ⊎ (((machine_ordered t o).course.purpose ≡ Asking b) × IsPut (machine_ordered t o).last))
-    (λ f. inr (ap (λ c. c.purpose) same ∙ purpose, (_, f, refl)))
-    (λ f running. inr (ap (λ c. c.purpose) (course_stays t s at unasked) ∙ purpose, (_, f, refl)))
+    (λ f. inr (ap (λ c. c.purpose) same ∙ purpose, (_, f, refl))) (λ f running. inr (ap (λ c. c.purpose) (course_stays t s at unasked) ∙ purpose, (_, f, refl)))
     (λ x may. absurd (no_record t s x at named none last may)) (λ e. inl (inl (e, refl))) (λ w. inl (inr (w, refl)))
 
 -- no silence is counted any more once gear are searched
@@ -39,16 +37,11 @@ asked_less : (opened : Bool) (k most : ℕ) → k ≤ most → asked_by opened k
 asked_less true k most less = omega arith
 asked_less false k most less = less
 
-asked_none : (opened : Bool) (k : ℕ) → k ≡ 0 → asked_by opened k ≡ 0
-asked_none true k none = refl
-asked_none false k none = none
-
 counted_by : (U : ℕ → Type 0) (n : ℕ → ℕ) (t : Machine) (b : ℕ) (o : Order) → (U b → t.asked ≤ n b)
     → IsEnded (machine_ordered t o) ⊎ (((machine_ordered t o).course.purpose ≡ Asking b) × IsPut (machine_ordered t o).last)
     → IsCounted U n (machine_ordered t o)
 counted_by U n t b o bound (inl ends) = inr (inl ends)
-counted_by U n t b o bound (inr on) =
-    inr (inr (b, on.0, on.1, λ used. asked_less (course_by t o).opened t.asked (n b) (bound used)))
+counted_by U n t b o bound (inr on) = inr (inr (b, on.0, on.1, λ used. asked_less (course_by t o).opened t.asked (n b) (bound used)))
 
 never_commits : (last : Option Order) → IsPut last → (c n : ℕ) → last ≡ Some (Commit (Enrol c n)) → ⊥
 never_commits last put c n is = let other : Some (Put put.0 put.1) ≡ Some (Commit (Enrol c n)) = sym put.2 ∙ is in cc
@@ -78,8 +71,7 @@ heard_counted U n m h p f b o purpose last whole bound may = go hears.at where
   hears = hearing_of m h p f b purpose last whole
 
   zero_at : (s : Stage) → stage_of (machine_heard m (Some f) h).trace ≡ s → asked_at s h m.asked ≡ 0 → (machine_heard m (Some f) h).asked ≡ 0
-  zero_at s at none =
-      ap (λ q. asked_after q (stage_of (machine_heard m (Some f) h).trace) h m.asked) purpose ∙ ap (λ r. asked_at r h m.asked) at ∙ none
+  zero_at s at none = ap (λ q. asked_after q (stage_of (machine_heard m (Some f) h).trace) h m.asked) purpose ∙ ap (λ r. asked_at r h m.asked) at ∙ none
 
   silent : h ≡ Silence → stage_of (machine_heard m (Some f) h).trace ≡ stage.HighAsked b None → (machine_heard m (Some f) h).asked ≡ m.asked + 1
       → IsCounted U n (machine_ordered (machine_heard m (Some f) h) o)
@@ -119,8 +111,7 @@ heard_on : (U : ℕ → Type 0) (n : ℕ → ℕ) (m : Machine) (h : Answer) (p 
     → IsCounted U n m → IsAllowed (machine_heard m (Some f) h) o → IsCounted U n (machine_ordered (machine_heard m (Some f) h) o)
 heard_on U n m h p f o last whole bound was may = go was where
   go : IsCounted U n m → IsCounted U n (machine_ordered (machine_heard m (Some f) h) o)
-  go (inr (inl ends)) =
-      absurd (over_ends m.last (input.Heard h) ends (ap (λ l. accepts (due_after l) (input.Heard h)) last))
+  go (inr (inl ends)) = absurd (over_ends m.last (input.Heard h) ends (ap (λ l. accepts (due_after l) (input.Heard h)) last))
   go (inr (inr (b, purpose, put, less))) = heard_counted U n m h p f b o purpose last whole (bound b purpose) may
   go (inl zero) = by (asked_or m.course.purpose) where
     by : ((b : ℕ) × (m.course.purpose ≡ Asking b)) ⊎ ((s : Stage) (h : Answer) (k : ℕ) → asked_after m.course.purpose s h k ≡ 0)
@@ -155,8 +146,7 @@ never_put m i waits put none =
 
 rest_on : (U : ℕ → Type 0) (n : ℕ → ℕ) (m : Machine) (i : Input) (o : Order) → accepts (due_after m.last) i ≡ true → (machine_told m i).asked ≡ m.asked
     → ((p : ℕ) (f : Forward) → accepts (due_after (Some (Put p f))) i ≡ false) → IsCounted U n m → IsCounted U n (machine_after m i o)
-rest_on U n m i o waits asked none (inl zero) =
-    inl (asked_none (course_by (machine_told m i) o).opened (machine_told m i).asked (asked ∙ zero))
+rest_on U n m i o waits asked none (inl zero) = inl (asked_none (course_by (machine_told m i) o).opened (machine_told m i).asked (asked ∙ zero))
 rest_on U n m i o waits asked none (inr (inl ends)) = absurd (over_ends m.last i ends waits)
 rest_on U n m i o waits asked none (inr (inr (b, purpose, put, less))) = absurd (never_put m i waits put none)
 

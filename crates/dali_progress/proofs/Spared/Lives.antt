@@ -5,22 +5,20 @@ use Rattle.dali_progress.proofs.Below.{Block, Input, Order, Put, Commit, Done, H
 use Rattle.dali_progress.proofs.Below.{machine_told, machine_heard, machine_committed, IsGiven, MayCommit, machine_after, machine_ordered, IsWhole, IsReady}
 use Rattle.dali_progress.proofs.Below.{IsUnstarted, IsOpenedOn, Pending, Sends, Opening, Asking, Fresh, Surveying, IsDue, IsCommit, controller_acted, entry}
 use Rattle.dali_progress.proofs.Below.{used_shorts, Controller, Used, ReservesUsed, BeginsBySurvey, AreWhole, FallsSilent, WasSilent, Step, IsTaken, IsCourse}
-use Rattle.dali_progress.proofs.Below.{ArePlain, stage_told, IsPlain, IsAccounted}
+use Rattle.dali_progress.proofs.{Below.{ArePlain, stage_told, IsPlain, IsAccounted}, Accounted.{accounted_stays, unreserved, told_keeps}, Census.Asked.Asks}
+use Rattle.dali_progress.proofs.Census.{Asked.{asks_of, self, sending_of}, Coming.{IsToCome, IsEnded, Watched, no_reservation, counting_ready, storing_of}}
+use Rattle.dali_progress.proofs.{Census.{Coming.{unreserved_on, over_ends}, Course.ordered_way, Silent.{IsLooked, watched_looked}}, Spared.Bytes.IsByteOf}
+use Rattle.dali_progress.proofs.Spared.{Bytes.{IsRead, read_plain, next_read}, Counted.{IsCounted, counted_more, counted_on}}
 use Rattle.dali_controller.specs.Whole.{Knows}
 use Rattle.dali_script.specs.declared.orders.Due.TheVariants as due
 use Rattle.dali_script.specs.declared.orders.Input.TheVariants as input
 use Rattle.dali_script.specs.declared.stage.Stage.TheVariants as stage
-use Rattle.dali_progress.proofs.{Accounted.{accounted_stays, unreserved, told_keeps}, Census.Asked.{Asks, asks_of, self, sending_of}, Census.Coming.IsToCome}
-use Rattle.dali_progress.proofs.Census.Coming.{IsEnded, Watched, no_reservation, counting_ready, storing_of, unreserved_on, over_ends}
-use Rattle.dali_progress.proofs.{Census.Course.ordered_way, Census.Silent.{IsLooked, watched_looked}, Spared.Bytes.{IsByteOf, IsRead, read_plain, next_read}}
-use Rattle.dali_progress.proofs.Spared.Counted.{IsCounted, counted_more, counted_on}
 
 -- THE LIFE OF A CONTROLLER since it began, by what its machine was told and ordered.
 
 -- what is heard of a frame: each silence of a used gear that is asked is counted; and bytes of random addresses
 abbrev pub IsAnswered : (ℕ → Type 0) → (ℕ → ℕ) → Bool → ℕ → Forward → Answer → Type 0
-IsAnswered U n opened asked f h =
-    opened ≡ false → (a : ℕ) → U a → command_of f ≡ RandomByte a High → h ≡ Silence → asked + 1 ≤ n a
+IsAnswered U n opened asked f h = opened ≡ false → (a : ℕ) → U a → command_of f ≡ RandomByte a High → h ≡ Silence → asked + 1 ≤ n a
 
 abbrev pub IsWellHeard : (ℕ → Type 0) → (ℕ → ℕ) → Bool → ℕ → Forward → Answer → Type 0
 IsWellHeard U n opened asked f h = IsAnswered U n opened asked f h × IsByteOf (command_of f) h
@@ -44,7 +42,8 @@ IsSafe m a = IsEnded m ⊎ IsAccounted m a
 abbrev pub IsFewAt : (ℕ → ℕ) → Machine → ℕ → Type 0
 IsFewAt n m a = (m.course.opened ≡ false → n a < 3) ⊎ IsSafe m a
 
-pub record Lives (U : ℕ → Type 0) (z : Block) (n : ℕ → ℕ) (k : Controller) (m : Machine) : Type 0 where
+-- its steps, and what they show, however silences are counted
+pub record Life (U : ℕ → Type 0) (z : Block) (m : Machine) : Type 0 where
   pub steps : List Step
   pub course : IsCourse steps m
   pub plain : ArePlain steps
@@ -53,9 +52,13 @@ pub record Lives (U : ℕ → Type 0) (z : Block) (n : ℕ → ℕ) (k : Control
   pub begun : HasBegun steps m
   pub read : IsRead (stage_of m.trace)
   pub unsilent : (a : ℕ) → U a → WasSilent steps a → IsSafe m a
+  pub block : m.kept.block ≡ z
+
+pub record Lives (U : ℕ → Type 0) (z : Block) (n : ℕ → ℕ) (k : Controller) (m : Machine) : Type 0 where
+  pub life : Life U z m
+  pub open life use *
   pub counted : IsCounted U n m
   pub few : (a : ℕ) → U a → IsFewAt n m a
-  pub block : m.kept.block ≡ z
   pub last : m.last ≡ k.last
   pub told : IsFair U n m.course.opened m.asked k.last k.told
 
@@ -65,28 +68,25 @@ free_read : IsRead (stage_of [])
 free_read = subst IsRead (sym stage_none) tt
 
 first_whole : (id : ℕ) (kept : Kept) → IsWhole (at_first id kept)
-first_whole id kept = record {
-  ready = record { tries = omega arith; calm = omega arith; knows = refl };
-  free = stage_none;
-  opening = refl;
-  fresh = refl;
-  first = refl;
-}
+first_whole id kept =
+    record { ready = record { tries = omega arith; calm = omega arith; knows = refl }; free = stage_none; opening = refl; fresh = refl; first = refl }
 
 pub lives_first : (U : ℕ → Type 0) (z : Block) (n : ℕ → ℕ) (k : Controller) (id : ℕ) (kept : Kept) → kept.block ≡ z → ((a : ℕ) → U a → n a < 3)
     → k.told ≡ Some input.Start → k.last ≡ None → Lives U z n k (at_first id kept)
 lives_first U z n k id kept block few told last = record {
-  steps = [];
-  course = tt;
-  plain = tt;
-  were = tt;
-  whole = first_whole id kept;
-  begun = (id, kept, refl);
-  read = free_read;
-  unsilent = λ a used silent. absurd silent;
+  life = record {
+    steps = [];
+    course = tt;
+    plain = tt;
+    were = tt;
+    whole = first_whole id kept;
+    begun = (id, kept, refl);
+    read = free_read;
+    unsilent = λ a used silent. absurd silent;
+    block = block;
+  };
   counted = inl refl;
   few = λ a used. inl (λ early. few a used);
-  block = block;
   last = sym last;
   told = subst (λ t. IsFair U n false 0 k.last t) (sym told) last;
 }
@@ -94,17 +94,9 @@ lives_first U z n k id kept block few told last = record {
 pub lives_told : (U : ℕ → Type 0) (z : Block) (n : ℕ → ℕ) (k k' : Controller) (m : Machine) → Lives U z n k m → k'.last ≡ k.last
     → IsFair U n m.course.opened m.asked k.last k'.told → Lives U z n k' m
 lives_told U z n k k' m l last told = record {
-  steps = l.steps;
-  course = l.course;
-  plain = l.plain;
-  were = l.were;
-  whole = l.whole;
-  begun = l.begun;
-  read = l.read;
-  unsilent = l.unsilent;
+  life = l.life;
   counted = l.counted;
   few = l.few;
-  block = l.block;
   last = l.last ∙ sym last;
   told = subst (λ o. IsFair U n m.course.opened m.asked o k'.told) (sym last) told;
 }
@@ -127,17 +119,9 @@ fair_more U n n' opened asked last _ more fair = tt
 pub lives_more : (U : ℕ → Type 0) (z : Block) (n n' : ℕ → ℕ) (k : Controller) (m : Machine) → ((a : ℕ) → U a → n a ≤ n' a) → ((a : ℕ) → U a → IsFewAt n' m a)
     → Lives U z n k m → Lives U z n' k m
 lives_more U z n n' k m more few l = record {
-  steps = l.steps;
-  course = l.course;
-  plain = l.plain;
-  were = l.were;
-  whole = l.whole;
-  begun = l.begun;
-  read = l.read;
-  unsilent = l.unsilent;
+  life = l.life;
   counted = counted_more U n n' m more l.counted;
   few = few;
-  block = l.block;
   last = l.last;
   told = fair_more U n n' m.course.opened m.asked k.last k.told more l.told;
 }
@@ -342,19 +326,21 @@ pub lives_acted : (U : ℕ → Type 0) (z : Block) (n : ℕ → ℕ) (k : Contro
     → IsDue k i → (i ≡ input.Start → ⊥) → accepts (due_after m.last) i ≡ true → IsGiven m i o → IsWhole (machine_after m i o)
     → Lives U z n (controller_acted k i o) (machine_after m i o)
 lives_acted U z n k m i o below l due unstarted waits given whole = record {
-  steps = (record { before = m; told = i; order = o }) ∷ l.steps;
-  course = (l.course, record { due = waits; given = given; after = refl });
-  plain = (plain, l.plain);
-  were = (l.whole, l.were);
-  whole = whole;
-  begun = begun_on m i o l.steps l.begun unstarted waits;
-  read = ordered_read (machine_told m i) o (told_read U z n k m i l due);
-  unsilent = λ a used silent. go a used silent;
+  life = record {
+    steps = (record { before = m; told = i; order = o }) ∷ l.steps;
+    course = (l.course, record { due = waits; given = given; after = refl });
+    plain = (plain, l.plain);
+    were = (l.whole, l.were);
+    whole = whole;
+    begun = begun_on m i o l.steps l.begun unstarted waits;
+    read = ordered_read (machine_told m i) o (told_read U z n k m i l due);
+    unsilent = λ a used silent. go a used silent;
+    block = told_block m i ∙ l.block;
+  };
   counted =
       counted_on U n m i o waits given l.whole (λ h f is put b purpose at silent used. answered U z n k m h f l
       (subst (λ j. IsDue k j) is due) put b purpose at silent used) l.counted;
   few = λ a used. few_on a used m.course.opened refl;
-  block = told_block m i ∙ l.block;
   last = refl;
   told = tt;
 } where
@@ -365,8 +351,7 @@ lives_acted U z n k m i o below l due unstarted waits given whole = record {
   stays a used safe = safe_acted m i o a (below a used) waits given plain safe
 
   few_on : (a : ℕ) → U a → (b : Bool) → m.course.opened ≡ b → IsFewAt n (machine_after m i o) a
-  few_on a used true is =
-      inr (stays a used (safe_opened U z n k m a l (λ none. unstarted_unopened m none l.whole is) used (below a used) is))
+  few_on a used true is = inr (stays a used (safe_opened U z n k m a l (λ none. unstarted_unopened m none l.whole is) used (below a used) is))
   few_on a used false is = by (l.few a used) where
     by : IsFewAt n m a → IsFewAt n (machine_after m i o) a
     by (inl few) = inl (λ early. few is)

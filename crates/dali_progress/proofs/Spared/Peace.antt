@@ -7,12 +7,12 @@ use Rattle.dali_progress.proofs.Below.{controller_begun, nobody, World, Controll
 use Rattle.dali_progress.proofs.Below.{machine_in, machines_after, Waits, leaves_acted, SiteState, opened_site, world, site_logged, IsActRefused, machines}
 use Rattle.dali_progress.proofs.Below.{machine_at, none_set, by_place, site_after, HearsUsed, IsOfCall, AreOfCalls, HasJustBegun, IsUsedOf, BeginsBySurveys}
 use Rattle.dali_progress.proofs.Below.{asks_first, is_silence, silences_after, IsHeardInTime, AsksInPeace, AllAskInPeace, HasAsked, StaysBegun}
+use Rattle.dali_progress.proofs.{Logged.{run_logged, machines_logged, some_within}, Spared.Calls.{IsLivedAt, counts_after, none_yet, lived_on, opened_lived}}
+use Rattle.dali_progress.proofs.Spared.Calls.{start_block, lived_leaves, unrefused, Heeds, heeded_on, just_lived, lived_all, unrefused_now, counts_more}
+use Rattle.dali_progress.proofs.{Spared.{Calls.counts_still, Lives.{lives_more, IsFair, IsFewAt, unstarted_unopened}}, Later.some_same}
 use Rattle.dali_script.specs.declared.orders.Input.TheVariants as input
 use Rattle.dali_events.specs.declared.event.Event.TheVariants as event
 use Rattle.dali_standing.specs.declared.refusal.Refusal.TheVariants as refusal
-use Rattle.dali_progress.proofs.{Logged.{run_logged, machines_logged, some_within}, Spared.Calls.{IsLivedAt, counts_after, none_yet, lived_on, opened_lived}}
-use Rattle.dali_progress.proofs.Spared.Calls.{start_block, lived_leaves, unrefused, Heeds, heeded_on, just_lived, lived_all, unrefused_now, some_same}
-use Rattle.dali_progress.proofs.{Spared.Calls.{counts_more, counts_still}, Spared.Lives.{lives_more, IsFair, IsFewAt, unstarted_unopened}}
 
 -- WHO IS ASKED IN PEACE IS HEARD: a used gear that has power answers, and nothing disturbs its answer.
 
@@ -86,11 +86,8 @@ log_after s (e ∷ es) = log_after (site_logged s e) es ∙ append_assoc s.log (
 pub unrefused_in_peace : (s : SiteState) (c : ℕ) (es : List Event) (i : Input) → HasJustBegun s c → AreOfCalls s es → IsRun s.plan s.queue (site_after s es).log
     → AllAskInPeace s c es → IsActRefused (site_after s es) c i refusal.AddressInUse → ⊥
 unrefused_in_peace s c es i begun are run peace =
-    unrefused s c es i run.plan begun are (
-      all_begin s c es peace,
-      λ a used. all_in_time s c a es
-          (subst (IsRun s.plan s.queue) (log_after s es) run) peace used,
-    )
+    unrefused s c es i run.plan begun are
+    (all_begin s c es peace, λ a used. all_in_time s c a es (subst (IsRun s.plan s.queue) (log_after s es) run) peace used)
 
 -- ---------------------------------------------------------------- if all controllers do so, without the site's refusal
 
@@ -104,8 +101,7 @@ lived_again s c v none l = record {
 
 event_leaves : (s : SiteState) (e : Event) (v : ℕ → ℕ → ℕ) → IsPlan s.plan → ((c : ℕ) → IsLivedAt s c (v c)) → Allowed (world s) e → IsOfCall s e
     → LeavesUsed s.plan.used e
-event_leaves s (event.Acted c i o) v plan l here of =
-    leaves_acted s.plan.used c i o (λ used. lived_leaves s c (v c) i o plan (l c) here of.1 used)
+event_leaves s (event.Acted c i o) v plan l here of = leaves_acted s.plan.used c i o (λ used. lived_leaves s c (v c) i o plan (l c) here of.1 used)
 event_leaves s _ v plan l here of = λ c i a r is used. cc
 
 peaceful : (s : SiteState) (c : ℕ) (e : Event) → IsPlan s.plan → IsRun s.plan s.queue (s.log ++ []) → Allowed (world s) e → IsOfCall s e → AsksInPeace s c e
@@ -134,8 +130,7 @@ runs_heard : (s : SiteState) (es : List Event) (v : ℕ → ℕ → ℕ) → IsR
 runs_heard s [] v run l are begin hear = subst (IsRun s.plan s.queue) (sym (append-nil s.log)) run
 runs_heard s (e ∷ es) v run l are begin hear =
     let on : IsRun s.plan s.queue (site_logged s e).log = run_logged s e run are.0 (event_leaves s e v run.plan l are.0 are.1) in
-    subst (IsRun s.plan s.queue) (append_assoc s.log (e ∷ []) es)
-    (runs_heard (site_logged s e) es (λ c. counts_after c (v c) e) on
+    subst (IsRun s.plan s.queue) (append_assoc s.log (e ∷ []) es) (runs_heard (site_logged s e) es (λ c. counts_after c (v c) e) on
     (λ c. lived_on s c (v c) e run.plan are.0 are.1 (begin c).0 (λ a used. let few = (hear c a used).0 in omega (arith, few)) (l c)) are.2
     (λ c. (begin c).1) (λ c a used. (hear c a used).1))
 
@@ -226,8 +221,7 @@ begun_heeds : (s : SiteState) (c : ℕ) (v : ℕ → ℕ) (e : Event) → Allowe
     → Heeds s c v e
 begun_heeds s c v (event.Acted d i o) here l begun many of = λ same start. go same start (machine_at s d) refl of where
   due : d ≡ c → i ≡ input.Start → IsActed (world s) d i o → (controller_at (world s) c).told ≡ Some input.Start
-  due same start acts =
-      subst (λ n. (controller_at (world s) n).told ≡ Some input.Start) same (subst (λ j. IsDue (controller_at (world s) d) j) start acts.due)
+  due same start acts = subst (λ n. (controller_at (world s) n).told ≡ Some input.Start) same (subst (λ j. IsDue (controller_at (world s) d) j) start acts.due)
 
   go : d ≡ c → i ≡ input.Start → (x : Option Machine) → machine_at s d ≡ x → IsOfCall s (event.Acted d i o) → ⊥
   go same start None has of = elim (subst (λ x. Waits x i) has of.0) [ ]

@@ -5,13 +5,12 @@ use Rattle.dali_progress.proofs.Below.{Halt, Record, Reserve, Enrol, Stage, stag
 use Rattle.dali_progress.proofs.Below.{closing, after_step, Machine, machine_heard, machine_committed, machine_told, next_course, begins_at, course_on}
 use Rattle.dali_progress.proofs.Below.{goes_on_to, at_rest, asked_once, silenced_on, most_silent, unanswered, ungiven, machine_ordered, machine_after}
 use Rattle.dali_progress.proofs.Below.{IsAllowed, Purpose, Opening, Probing, Visiting, Closing, Hunting, Fresh, given_by, entry, block_at, is_bare, World}
-use Rattle.dali_progress.proofs.Below.{controller_at, informed_by, world, Succeeds}
-use Rattle.dali_search.specs.declared.step.Step.{Step}
+use Rattle.dali_progress.proofs.{Below.{controller_at, informed_by, world, Succeeds}, Both.{none_apart, never_draws, left_same, opening_none, opening_draws}}
+use Rattle.dali_progress.proofs.{Both.{draws_few, is_complete, with_kept, not_failed}, Drawing.Draws, Gives.{bare_fewer, frame_gives}, Later.unasked_but}
+use Rattle.dali_progress.proofs.{Later.stays_at, Lone.{due_of, IsDueOf, Moment, acts_by}, Stands.{CloseStage, At, Stands, Sends}, Start.Goes.{Hears, Holds}}
+use Rattle.{dali_progress.proofs.Start.{Goes.of_start, Turns.{IsNext, CommitsTo, goes_on_anew}}, dali_search.specs.declared.step.Step.Step}
 use Rattle.dali_script.specs.declared.orders.Input.TheVariants as input
 use Rattle.dali_script.specs.declared.stage.Stage.TheVariants as stage
-use Rattle.dali_progress.proofs.Both.{none_apart, never_draws, left_same, opening_none, opening_draws, draws_few, is_complete, with_kept, not_failed}
-use Rattle.dali_progress.proofs.{Drawing.Draws, Gives.{bare_fewer, frame_gives}, Later.{unasked_but, stays_at}, Lone.{due_of, IsDueOf, Moment, acts_by}}
-use Rattle.dali_progress.proofs.{Stands.{CloseStage, At, Stands, Sends}, Start.Goes.{Hears, Holds, of_start}, Start.Turns.{IsNext, CommitsTo, goes_on_anew}}
 
 -- THE NUMBERS THAT GEAR DRAW: if there is one for each gear at the start, they are never spent. Gear draw once, at the
 -- last frame of the one opening.
@@ -141,8 +140,7 @@ heard_undrawn before t (Put p f) gs left st (inl (first, lawful)) undrawn =
       go : (b : Bool) → t.course.opened ≡ b → (next_course t).opened ≡ false → (t.course.opened ≡ false) × (is_complete (stage_of t.trace) ≡ false)
       go true is closed =
           let opened : (next_course t).opened ≡ true =
-          stays_open t (stage_of t.trace) st.fresh is
-          (λ r h room e. never_hunted t.course.purpose (stage_of t.trace)
+          stays_open t (stage_of t.trace) st.fresh is (λ r h room e. never_hunted t.course.purpose (stage_of t.trace)
           t.kept t.course.opened t.course.search t.course.number gs left r h room st.at e) in
           absurd (let both : true ≡ false = sym opened ∙ closed in cc)
       go false is closed = (is, early_before t (stage_of t.trace) st.fresh closed)
@@ -238,8 +236,7 @@ start_draws before = record {
         acts_has before (world s) s.queue c u.machine (controller_at (world s) c).outstanding (controller_at (world s) c).last
         (controller_at (world s) c).told i o (world s).gear (world s).left left u.goes.lone.moment u.goes.lone.last
         (due_of (controller_at (world s) c) i here.due) good (given_by u.machine i o (not_failed false i good) given).ordered.allowed u.goes.holds has;
-    sends = λ s c left rest p f h u here heard last holds now has.
-        has_heard u.machine p f h before (world s).gear (world s).left left last
+    sends = λ s c left rest p f h u here heard last holds now has. has_heard u.machine p f h before (world s).gear (world s).left left last
         (bare_fewer (block_at s.plan c) (world s).gear (row_after Everyone (command_of f) 0 (world s).gear (world s).left) (frame_gives s c f h u.run here))
         holds has;
   };

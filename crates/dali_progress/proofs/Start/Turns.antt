@@ -8,17 +8,16 @@ use Rattle.dali_progress.proofs.Below.{first_of, turn_of, is_yes, closing_of, se
 use Rattle.dali_progress.proofs.Below.{opening as opening_of, unfinished_at, unfinished_among, visit_or_opening, going_on, searching_first, searching_on}
 use Rattle.dali_progress.proofs.Below.{Machine, next_course, begins_at, at_rest, beginning, goes_on_to, ungiven, machine_ordered, Contradicts, AfterFinding}
 use Rattle.dali_progress.proofs.Below.{Purpose, Opening, Probing, Visiting, Closing, Fresh, keeps_fresh, goes_on_fresh, IsGivenBy, IsNoEnrolment, HasShort}
-use Rattle.dali_progress.proofs.Below.{is_wanted, wants, is_bare, OfPowered, IsOpened, NoneNamed, EndsWell, AreTabled}
-use Rattle.dali_search.specs.declared.step.Step.{Step}
+use Rattle.dali_progress.proofs.{Below.{is_wanted, wants, is_bare, OfPowered, IsOpened, NoneNamed, EndsWell, AreTabled}, Both.{with_kept, never_eight}}
+use Rattle.dali_progress.proofs.Both.{drawn_number, has_address, entry_last, visits_first, frames_reserved, enrolled_begins, reserved_begins, no_enrolment_yet}
+use Rattle.dali_progress.proofs.{Both.entry_twice, Frames.{nobody_short, nobody_wanted}, Later.{IsUnasked, later_leaves, turn_unasked}, Stands.to_come}
+use Rattle.dali_progress.proofs.Stands.{search_frames, probe_frames, Opens, Probes, VisitFrames, Visits, Leaves, VisitsAt, Closes, At, IsWithin, Stands, Sends}
+use Rattle.{dali_progress.proofs.Tables.tabled_over, dali_search.specs.declared.step.Step.Step}
 use Rattle.dali_script.specs.declared.stage.Stage.TheVariants as stage
 use Rattle.dali_search.proofs.Answered as searching
 use Rattle.dali_controller.proofs.Given as given
 use Rattle.dali_events.proofs.Search.Opened as opening
 use Rattle.dali_events.proofs.Search.Wanted as wanted
-use Rattle.dali_progress.proofs.Both.{with_kept, never_eight, drawn_number, has_address, entry_last, visits_first, frames_reserved, enrolled_begins}
-use Rattle.dali_progress.proofs.{Both.{reserved_begins, no_enrolment_yet, entry_twice}, Frames.nobody_short, Later.{IsUnasked, later_leaves, turn_unasked}}
-use Rattle.dali_progress.proofs.Stands.{to_come, search_frames, probe_frames, Opens, Probes, VisitFrames, Visits, Leaves, VisitsAt, Closes, At, IsWithin}
-use Rattle.dali_progress.proofs.{Stands.{Stands, Sends}, Tables.tabled_over}
 
 -- A CONTROLLER ACTS on what it was told, and what it orders goes on with the commissioning.
 
@@ -197,11 +196,6 @@ again_some x said has n running agrees none =
     let count : length (answered x said).answers ≡ 0 = n.untouched top less in
     let more : length (answered x said).answers ≡ length x.answers + 1 = length_more x.answers x.probe said in
     omega (arith, count, more)
-
-nobody_wanted : (gs : List Gear) → count_by is_wanted gs ≡ 0 → (m : ℕ) → wants gs m ≡ true → ⊥
-nobody_wanted gs none m e =
-    let some : 0 < count_by is_wanted gs = wanted.count_some gs m e in
-    omega (arith, none, some)
 
 again_frames : (gs : List Gear) (x : Search) (said : Bool) (left n : ℕ) → IsNarrowing (answered x said) → (answered x said).step ≡ Again
     → Agrees (wants gs) (answered x said).answers → count_by is_wanted gs ≡ n → probe_frames (length x.answers) n ≤ left + 4
@@ -483,8 +477,7 @@ enrolled_next before m b r o gs left calm v free last map g =
     searches_anew before (with_kept m (Enrol b r)) o gs left
     (record { tries = calm.tries; fresh = calm.fresh; silent = calm.silent; within = within_enrolled m.kept b r calm.within v.reserved })
     (tabled_over before ((b, r) ∷ m.kept.enrolled) (m.kept.enrolled ++ (b, r) ∷ []) gs (entry_last m.kept.enrolled (b, r)) v.tabled)
-    (enrolled_begins m b r o v.reserved free last map g)
-    (ap (begins_at (with_kept m (Enrol b r))) stage ∙ ap (at_rest (with_kept m (Enrol b r))) last
+    (enrolled_begins m b r o v.reserved free last map g) (ap (begins_at (with_kept m (Enrol b r))) stage ∙ ap (at_rest (with_kept m (Enrol b r))) last
     ∙ goes_on_anew (with_kept m (Enrol b r)) v.opened calm.fresh)
     v.ready v.unnamed v.frames
 

@@ -3,12 +3,11 @@ use Rattle.dali_progress.proofs.Below.{if◌then◌else◌, ◌∷◌, Option, A
 use Rattle.dali_progress.proofs.Below.{Machine, at_first, IsUp, IsDown, Allowed, IsDue, IsCommit, happens, gone_down, come_up, kept_after, IsRun, World}
 use Rattle.dali_progress.proofs.Below.{Controller, controller_at, nobody, Event, machine_in, SiteState, world, site_logged, machines, machine_at, site_after}
 use Rattle.dali_progress.proofs.Below.{HasEnded, IsAlone, restarted, Rounds, BySurvey, IsOfRound, most_frames, bare, CommitsNothing, NamesAll, table_at, Answer}
-use Rattle.dali_progress.proofs.Below.{Forward}
+use Rattle.dali_progress.proofs.{Below.Forward, Beginnings.{runs_after, named}, Logged.{world_logged, run_logged, machines_logged, some_within}, Lone.still}
+use Rattle.dali_progress.proofs.{Lone.{Rests, acted_there, sent_there, lone_next}, Survey.Goes.{EndsBy, ended_by, of_survey, argument, began_at, starts}}
+use Rattle.dali_progress.proofs.{Survey.Stands.Begun, Along.{Runs, runs_on}, Later.some_same}
 use Rattle.dali_events.specs.declared.event.Event.TheVariants as event
 use Rattle.dali_script.specs.declared.orders.Input.TheVariants as input
-use Rattle.dali_progress.proofs.{Beginnings.{runs_after, named}, Logged.{world_logged, run_logged, machines_logged, some_within}, Lone.{still, Rests}}
-use Rattle.dali_progress.proofs.{Lone.{acted_there, sent_there, lone_next}, Survey.Goes.{EndsBy, ended_by, of_survey, argument, began_at, starts}}
-use Rattle.dali_progress.proofs.{Survey.Stands.Begun, Along.{Runs, runs_on}}
 
 -- A CONTROLLER THAT ENDED A SURVEY, and comes up again, surveys alone once more.
 
@@ -51,14 +50,12 @@ again_there s c up = ap (λ w. controller_at w c) (world_again s c) ∙ comes_up
 machine_again : (s : SiteState) (c : ℕ) (m : Machine) → machine_at s c ≡ Some m → IsUp (world s) c
     → machine_at (restarted s c) c ≡ Some (at_first c (controller_at (world s) c).records)
 machine_again s c m there up =
-    ap (λ ms. machine_in ms c) (machines_logged (site_logged s (event.Down c)) (event.Up c false))
-    ∙ get_or-set_same (machines (site_logged s (event.Down c))) c
+    ap (λ ms. machine_in ms c) (machines_logged (site_logged s (event.Down c)) (event.Up c false)) ∙ get_or-set_same (machines (site_logged s (event.Down c))) c
     (Some (at_first c (come_up false (controller_at (world (site_logged s (event.Down c))) c)).records)) None within
     ∙ ap (λ (k : Controller). Some (at_first c k.records)) kept
   where
     within : c < length (machines (site_logged s (event.Down c)))
-    within =
-        subst (λ n. c < n) (sym (ap length (machines_logged s (event.Down c)) ∙ length-set (machines s) c None)) (some_within (machines s) c m there)
+    within = subst (λ n. c < n) (sym (ap length (machines_logged s (event.Down c)) ∙ length-set (machines s) c None)) (some_within (machines s) c m there)
 
     kept : controller_at (world (site_logged s (event.Down c))) c ≡ gone_down (controller_at (world s) c)
     kept = ap (λ w. controller_at w c) (world_logged s (event.Down c)) ∙ down_there (world s) c up
@@ -94,8 +91,7 @@ surveys_again s c es e a rounds ended = again_by s (site_after s es) c e (ended_
 -- with the records that it kept
 pub kept_again : (s : SiteState) (c : ℕ) (es : List Event) (e : End) → IsAlone s c → Rounds true s c es → HasEnded (site_after s es) c e
     → (controller_at (world (restarted (site_after s es) c)) c).records ≡ (controller_at (world (site_after s es)) c).records
-kept_again s c es e a rounds ended =
-    ap (λ (k : Controller). k.records) (again_there (site_after s es) c (ended_so s c es e a rounds ended).up)
+kept_again s c es e a rounds ended = ap (λ (k : Controller). k.records) (again_there (site_after s es) c (ended_so s c es e a rounds ended).up)
 
 -- A SURVEY THAT COMMITS NOTHING keeps the records that it began with.
 
@@ -117,16 +113,12 @@ acted_keeps : (w : World) (c : ℕ) (i : Input) (o : Order) → IsUp w c → IsN
     → ((x : Record) → o ≡ Commit x → ⊥) → Keeps w (happens w (event.Acted c i o)) c
 acted_keeps w c i o up none due quiet = (
   ap (λ (k : Controller). k.records) (acted_there w c i o up) ∙ none_due (controller_at w c) i none due,
-  λ x e. quiet x (order o x (sym (ap (λ (k : Controller). k.last) (acted_there w c i o up)) ∙ e)),
-) where
-  order : (o : Order) (x : Record) → Some o ≡ Some (Commit x) → o ≡ Commit x
-  order o x e = cc
+  λ x e. quiet x (some_same o (Commit x) (sym (ap (λ (k : Controller). k.last) (acted_there w c i o up)) ∙ e)),
+)
 
 sent_keeps : (w : World) (c : ℕ) (f : Forward) (h : Answer) → IsUp w c → IsNone (controller_at w c).last → Keeps w (happens w (event.Sent c f h)) c
-sent_keeps w c f h up none = (
-  ap (λ (k : Controller). k.records) (sent_there w c f h up),
-  λ x e. none x (sym (ap (λ (k : Controller). k.last) (sent_there w c f h up)) ∙ e),
-)
+sent_keeps w c f h up none =
+    (ap (λ (k : Controller). k.records) (sent_there w c f h up), λ x e. none x (sym (ap (λ (k : Controller). k.last) (sent_there w c f h up)) ∙ e))
 
 event_keeps : (start : Begun) (s : SiteState) (c left : ℕ) (e : Event) → Runs (of_survey start) s c left → Allowed (world s) e → IsOfRound true s c e
     → CommitsNothing e → IsNone (controller_at (world s) c).last → Keeps (world s) (happens (world s) e) c

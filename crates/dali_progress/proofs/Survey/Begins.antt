@@ -7,16 +7,16 @@ use Rattle.dali_progress.proofs.Below.{Found, Course, turn_of, number_at, is_ope
 use Rattle.dali_progress.proofs.Below.{ask_or_call, asking, calling_first, going_on, going_on_early, sought, hunting, hunting_first, searching_on, Machine}
 use Rattle.dali_progress.proofs.Below.{next_course, course_by, beginning, goes_on_to, BeginsWith, machine_ordered, asked_by, IsAllowed, IsCaused, has_short}
 use Rattle.dali_progress.proofs.Below.{served, IsWhole, Sends as SendsWhole, Purpose, Hunting, Visiting, Asking as Counting, Shorts, found_number, IsGivenBy}
-use Rattle.dali_progress.proofs.Below.{IsNoEnrolment, is_bare, is_wanted, wants, IsOpened, NoneNamed, SameCore, AreTabled, IsSettled}
+use Rattle.dali_progress.proofs.{Below.{IsNoEnrolment, is_bare, is_wanted, wants, IsOpened, NoneNamed, SameCore, AreTabled}, Both.never_eight}
+use Rattle.dali_progress.proofs.{Census.{Asked.sending_of, Coming.{asked_later, asked_before, unasked_enrolled, from_next}, Left.asked_within}, Later.IsUnasked}
+use Rattle.dali_progress.proofs.{Later.{later_leaves, turn_unasked, course_stays, asked_none}, Survey.Drawn.{those_drawn, is_lost, bare_split}}
+use Rattle.dali_progress.proofs.Survey.{Queried.{OneShort, IsTrue, AreOwned, TabledBelow, unseen, below_all, below_named}, Rising.{rises_so, rises_first}}
+use Rattle.dali_progress.proofs.Survey.{Rising.rises_above, Stands.{Begun, survey_frames, Counts, IsUncalled, IsCalledFor, called_after, hunted_after}}
+use Rattle.dali_progress.proofs.Survey.Stands.{roll_frames, frames_after, Rises, HuntAt, Hunts, AreTaken, SurveyEnds, IsSmooth, SurveyAt, SurveyStands}
+use Rattle.dali_progress.proofs.{Survey.Stands.{IsHunted, Calm, Settles, IsSettledIn}, Surveying.{roll_first, IsClear}}
 use Rattle.dali_script.specs.declared.orders.Fault.TheVariants as fault
 use Rattle.dali_script.specs.declared.stage.Stage.TheVariants as stage
 use Rattle.dali_controller.proofs.Given as given
-use Rattle.dali_progress.proofs.{Both.never_eight, Census.Asked.sending_of, Census.Coming.{asked_later, asked_before, unasked_enrolled, from_next}}
-use Rattle.dali_progress.proofs.{Census.Left.asked_within, Later.{IsUnasked, later_leaves, turn_unasked, course_stays}, Survey.Drawn.{those_drawn, is_lost}}
-use Rattle.dali_progress.proofs.{Survey.Drawn.bare_split, Survey.Queried.{OneShort, IsTrue, AreOwned, TabledBelow, unseen, below_all, below_named}}
-use Rattle.dali_progress.proofs.{Survey.Rising.{rises_so, rises_first, rises_above}, Survey.Stands.{Begun, survey_frames, Counts, IsUncalled, IsCalledFor}}
-use Rattle.dali_progress.proofs.Survey.Stands.{called_after, hunted_after, roll_frames, frames_after, Rises, HuntAt, Hunts, AreTaken, SurveyEnds, IsSmooth}
-use Rattle.dali_progress.proofs.{Survey.Stands.{SurveyAt, SurveyStands, IsHunted, Calm}, Surveying.{roll_first, IsClear}}
 
 -- A TRANSACTION OF A SURVEY BEGINS, or goes on; and what is to come of an order.
 
@@ -26,7 +26,7 @@ pub record AsksCounted (start : Begun) (m : Machine) (a : ℕ) (entries : List A
   pub asked : m.asked ≡ 0
   pub small : a < 64
   pub from_is : m.course.from ≡ a + 1
-  pub settled : IsSettled start.kept → IsSettled m.kept
+  pub settled : Settles start m.kept
   pub clear : IsClear m.kept m.heard
   pub same : SameCore start.gear gs
   pub tabled : TabledBelow (a + 1) start.gear entries gs
@@ -55,7 +55,7 @@ pub record EnrolsHunted (start : Begun) (m : Machine) (b r : ℕ) (gs : List Gea
   pub unnamed : NoneNamed (those_drawn gs)
   pub above : Above m.course.ascent r (those_drawn gs)
   pub reserved : Has m.kept.reserved (b, r)
-  pub settled : IsSettled start.kept → (x : Assignment) → Has m.kept.reserved x → Has m.kept.enrolled x ⊎ (x.1 ≡ r)
+  pub settled : (x : Assignment) → Has m.kept.reserved x → IsSettledIn start m.kept x ⊎ (x.1 ≡ r)
   pub tabled : AreTabled (unseen start.gear) ((b, r) ∷ m.kept.enrolled) (those_drawn gs)
   pub frames : 106 * count_by is_wanted (those_drawn gs) + 32 + called_after (count_by is_lost gs) ≤ left
 
@@ -63,7 +63,7 @@ pub record EnrolsHunted (start : Begun) (m : Machine) (b r : ℕ) (gs : List Gea
 pub record ReservesHunted (start : Begun) (m : Machine) (a r : ℕ) (gs : List Gear) (left : ℕ) : Type 0 where
   pub hunted : IsHunted m.course gs
   pub clear : IsClear m.kept m.heard
-  pub settled : IsSettled start.kept → IsSettled m.kept
+  pub settled : Settles start m.kept
   pub open_is : is_open m.kept m.heard a ≡ true
   pub ready : IsOpened (those_drawn gs)
   pub unnamed : NoneNamed (those_drawn gs)
@@ -90,8 +90,7 @@ IsPut p m = (p ≡ LATER) ⊎ (m.trace ≡ [])
 abbrev pub IsNext : Begun → Machine → Order → List Gear → ℕ → Type 0
 IsNext start m (Put p f) gs left = SurveyStands false start m gs left × IsPut p m
 IsNext start m (Commit x) gs left = Calm m × SurveyCommits start m x gs left
-IsNext start m (Done e) gs left =
-    SurveyEnds e m.kept m.heard gs × AreTabled (unseen start.gear) m.kept.enrolled gs × (IsSettled start.kept → IsSettled m.kept)
+IsNext start m (Done e) gs left = SurveyEnds e m.kept m.heard gs × AreTabled (unseen start.gear) m.kept.enrolled gs × Settles start m.kept
 IsNext start m (Halt why) gs left = ⊥
 
 abbrev pub GoesTo : Begun → Machine → Order → List Gear → ℕ → Type 0
@@ -311,12 +310,8 @@ called_roll drawn (suc lost) none =
 
 -- ---------------------------------------------------------------- the next short address, or the roll call
 
-pub asked_none : (opened : Bool) (n : ℕ) → n ≡ 0 → asked_by opened n ≡ 0
-asked_none true n none = refl
-asked_none false n none = none
-
 pub asks_on : (start : Begun) (t : Machine) (o : Order) (f : ℕ) (gs : List Gear) (left : ℕ) → Calm t → o ≡ beginning (next_course t)
-    → next_course t ≡ goes_on_to t → IsUncalled t.course → t.asked ≡ 0 → t.course.from ≡ f → f ≤ 64 → (IsSettled start.kept → IsSettled t.kept)
+    → next_course t ≡ goes_on_to t → IsUncalled t.course → t.asked ≡ 0 → t.course.from ≡ f → f ≤ 64 → Settles start t.kept
     → IsClear t.kept t.heard → OneShort gs → IsTrue t.kept.enrolled gs → SameCore start.gear gs → TabledBelow f start.gear t.kept.enrolled gs
     → 3 * (64 - f) + survey_frames gs ≤ left → GoesTo start t o gs left
 asks_on start t o f gs left calm is next uncalled asked from few settled clear one holds same tabled enough =
@@ -358,8 +353,7 @@ asks_on start t o f gs left calm is next uncalled asked from few settled clear o
             first = λ some. uncalled.undrawn;
             clear = clear;
             settled = settled;
-            tabled = below_all start.gear t.kept.enrolled gs same
-                (below_named f 64 start.gear t.kept.enrolled gs one holds tabled
+            tabled = below_all start.gear t.kept.enrolled gs same (below_named f 64 start.gear t.kept.enrolled gs one holds tabled
                 (λ c past under. unasked_enrolled t.kept c (none refl c past (omega (arith, under, few)))));
             frames = count (roll_frames t.course.tally.is_silent (count_by is_bare (those_drawn gs)) (count_by is_lost gs)) (count_by is_bare gs)
                 (roll_most t.course.tally.is_silent (count_by is_bare (those_drawn gs)) (count_by is_lost gs) (count_by is_bare gs) (bare_split gs)) enough;
@@ -375,7 +369,7 @@ no_surplus rest after left enough = omega (arith, enough)
 
 pub hunts_by : (start : Begun) (t : Machine) (o : Order) (cs : Course) (rest : ℕ) (gs : List Gear) (left : ℕ) → Calm t → o ≡ beginning (next_course t)
     → next_course t ≡ hunting cs → IsSmooth cs → IsHunted cs gs → IsCalledFor Hunting cs.ascent gs → IsClear t.kept t.heard
-    → (IsSettled start.kept → IsSettled t.kept) → Rises false stage.Free cs.ascent (sought (asked_next cs.ascent)) (those_drawn gs) rest
+    → Settles start t.kept → Rises false stage.Free cs.ascent (sought (asked_next cs.ascent)) (those_drawn gs) rest
     → AreTabled (unseen start.gear) t.kept.enrolled (those_drawn gs) → rest + frames_after Hunting cs.ascent gs ≤ left → GoesTo start t o gs left
 hunts_by start t o cs rest gs left calm is next smooth hunted called clear settled rises tabled frames =
     first_by start t o (hunting cs) gs left calm is next smooth (record {
@@ -394,8 +388,7 @@ hunts_by start t o cs rest gs left calm is next smooth hunted called clear settl
 -- from the least number on
 pub hunts_first : (start : Begun) (t : Machine) (o : Order) (cs : Course) (gs : List Gear) (left : ℕ) → Calm t → o ≡ beginning (next_course t)
     → next_course t ≡ hunting_first cs → IsSmooth cs → IsHunted cs gs → 0 < count_by is_bare gs → IsClear t.kept t.heard
-    → (IsSettled start.kept → IsSettled t.kept) → IsOpened (those_drawn gs) → NoneNamed (those_drawn gs)
-    → AreTabled (unseen start.gear) t.kept.enrolled (those_drawn gs)
+    → Settles start t.kept → IsOpened (those_drawn gs) → NoneNamed (those_drawn gs) → AreTabled (unseen start.gear) t.kept.enrolled (those_drawn gs)
     → 106 * count_by is_wanted (those_drawn gs) + 10 + hunted_after (count_by is_wanted (those_drawn gs)) (count_by is_lost gs) ≤ left
     → GoesTo start t o gs left
 hunts_first start t o cs gs left calm is next smooth hunted some clear settled ready unnamed tabled frames =
@@ -409,7 +402,7 @@ hunts_first start t o cs gs left calm is next smooth hunted some clear settled r
 
 -- and above who was found
 pub hunts_on : (start : Begun) (t : Machine) (o : Order) (r : ℕ) (gs : List Gear) (left : ℕ) → Calm t → o ≡ beginning (next_course t)
-    → next_course t ≡ goes_on_to t → IsHunted t.course gs → IsClear t.kept t.heard → (IsSettled start.kept → IsSettled t.kept)
+    → next_course t ≡ goes_on_to t → IsHunted t.course gs → IsClear t.kept t.heard → Settles start t.kept
     → Above t.course.ascent r (those_drawn gs) → IsOpened (those_drawn gs) → NoneNamed (those_drawn gs)
     → AreTabled (unseen start.gear) t.kept.enrolled (those_drawn gs)
     → 106 * count_by is_wanted (those_drawn gs) + 32 + called_after (count_by is_lost gs) ≤ left → GoesTo start t o gs left

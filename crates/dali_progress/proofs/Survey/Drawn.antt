@@ -140,10 +140,8 @@ one_drawn c k g numbers is still = go g.powered refl (is_undrawn g) refl where
   go true on false drew =
       subst (λ (n : Gear). n ≡ drop_one (is_undrawn n) n) (sym (one_on c k g numbers on))
       (sym (ap (λ b. drop_one b (gear_taken c (next_draw g numbers) g)) (undrawn_taken c g (next_draw g numbers) is still on ∙ drew)))
-  go false off true undrawn =
-      subst (λ (n : Gear). dark ≡ drop_one (is_undrawn n) n) (sym (one_off c k g numbers off)) (sym (ap (λ b. drop_one b g) undrawn))
-  go false off false drew =
-      subst (λ (n : Gear). n ≡ drop_one (is_undrawn n) n) (sym (one_off c k g numbers off)) (sym (ap (λ b. drop_one b g) drew))
+  go false off true undrawn = subst (λ (n : Gear). dark ≡ drop_one (is_undrawn n) n) (sym (one_off c k g numbers off)) (sym (ap (λ b. drop_one b g) undrawn))
+  go false off false drew = subst (λ (n : Gear). n ≡ drop_one (is_undrawn n) n) (sym (one_off c k g numbers off)) (sym (ap (λ b. drop_one b g) drew))
 
 left_over : (b d : Bool) (numbers : List ℕ) → d ≡ false → left_after (b && d) numbers ≡ numbers
 left_over true d numbers none = rw none refl
@@ -182,14 +180,12 @@ answers_drawn c k (g ∷ gs) still =
 
 -- ---------------------------------------------------------------- which frames are so
 
-pub undrawn_random : (g : Gear) → is_undrawn g ≡ true → (g.random ≡ MASK24) × (g.short ≡ None)
-undrawn_random g is = go (both_pass (g.random == MASK24) (not (is_some g.short)) is) where
-  none : (o : Option ℕ) → not (is_some o) ≡ true → o ≡ None
-  none None e = refl
-  none (Some a) e = absurd (cc)
+pub none_of : (o : Option ℕ) → not (is_some o) ≡ true → o ≡ None
+none_of None e = refl
+none_of (Some a) e = absurd (cc)
 
-  go : ((g.random == MASK24) ≡ true) × (not (is_some g.short) ≡ true) → (g.random ≡ MASK24) × (g.short ≡ None)
-  go both = (same_number g.random MASK24 both.0, none g.short both.1)
+pub undrawn_random : (g : Gear) → is_undrawn g ≡ true → (g.random ≡ MASK24) × (g.short ≡ None)
+undrawn_random g is = let both = both_pass (g.random == MASK24) (not (is_some g.short)) is in (same_number g.random MASK24 both.0, none_of g.short both.1)
 
 -- none that is left out is found under a number below FFFFFF
 unfound : (g : Gear) (r : SearchAddress) → g.random ≡ MASK24 → g.search ≡ r → value_of r < MASK24 → is_found g ≡ false
@@ -201,13 +197,13 @@ unfound g r random search small =
     test : (m n : ℕ) → (m ≡ n → ⊥) → (m == n) ≡ false
     test m n other = grind (arith, nat_tests, other)
 
+pub not_most : (m n : ℕ) → n < m → nat_le m n ≡ false
+not_most m n less = grind (arith, nat_tests, less)
+
 above : (g : Gear) (r : SearchAddress) → g.random ≡ MASK24 → g.search ≡ r → value_of r < MASK24 → nat_le g.random (value_of g.search) ≡ false
 above g r random search small =
     let less : value_of g.search < g.random = (let same : value_of g.search ≡ value_of r = ap value_of search in omega (arith, random, same, small)) in
-    test g.random (value_of g.search) less
-  where
-    test : (m n : ℕ) → n < m → nat_le m n ≡ false
-    test m n less = grind (arith, nat_tests, less)
+    not_most g.random (value_of g.search) less
 
 active_enabled : (g : Gear) → is_enabled g.state ≡ true → is_active g.state ≡ true
 active_enabled g e = go g.state e where
@@ -336,8 +332,7 @@ numbered_of w drawn k h = go (drawn.random k h) where
 
 -- no two have drawn one number
 abbrev pub DrewApart : List Gear → Type 0
-DrewApart gs =
-    (j k : ℕ) → j < length gs → k < length gs → (gear_of gs j).random < MASK24 → (gear_of gs j).random ≡ (gear_of gs k).random → j ≡ k
+DrewApart gs = (j k : ℕ) → j < length gs → k < length gs → (gear_of gs j).random < MASK24 → (gear_of gs j).random ≡ (gear_of gs k).random → j ≡ k
 
 pub drew_apart : (w : World) → AreDrawn w → DrewApart w.gear
 drew_apart w drawn j k h i small same =

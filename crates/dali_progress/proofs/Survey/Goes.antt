@@ -10,21 +10,19 @@ use Rattle.dali_progress.proofs.Below.{Asking, Calling, Drawing, PassingOver, Sh
 use Rattle.dali_progress.proofs.Below.{HasFound, KeepsPromiseNow, IsRun, gear_of, World, Controller, controller_at, findings_agree_in, keeps_promise}
 use Rattle.dali_progress.proofs.Below.{holds_after, reserved_number, SameCore, IsFound, informed_by, SiteState, world, site_logged, machine_at, AreTabled}
 use Rattle.dali_progress.proofs.Below.{SurveyEndsWell, IsSurveyDone, IsUnseen, NamesAll, table_at, IsSettled, Succeeds, HasEnded, IsAlone, IsSettledAt, bare}
-use Rattle.dali_progress.proofs.Below.{most_frames, BySurvey}
-use Rattle.std.proofs.lemmas.List.{append-nil}
+use Rattle.dali_progress.proofs.{Below.{most_frames, BySurvey}, Along.{Measure, Goes, slack_at, Argument, Runs, held_ended, runs_first, with_left, HoldsBy}}
+use Rattle.dali_progress.proofs.{Along.{holds_next, acts_from}, Both.{never_eight, not_free, no_tries, addresses_by, put_no_enrolment, IsKnown, taken_of}}
+use Rattle.dali_progress.proofs.{Both.{lawful_now, no_enrolment_yet}, Census.Asked.sending_of, Frames.Seeks, Logged.{world_logged, drawn_now, kept_now}}
+use Rattle.dali_progress.proofs.{Logged.block_now, Lone.{IsLone, Moment, IsDueOf, due_of, heard_kept, acted_there, sent_there, lone_acted, lone_sent, acts_by}}
+use Rattle.dali_progress.proofs.{Lone.Rests, Stands.{Sends, sends_of}, Survey.{Begins.{IsPut, IsNext, asks_on}, Drawn.{numbered_of, drew_apart}}}
+use Rattle.dali_progress.proofs.Survey.{Visits.{committed, begins_less, spared, spared_few, survey_slack, turned}, Queried.{OneShort, IsTrue, below_none}}
+use Rattle.dali_progress.proofs.Survey.{Queried.{IsAtHand, AreOwned, IsPassed, core_self, unseen, unseen_was}, Sent.{SurveySent, survey_sent}, Stands.Begun}
+use Rattle.dali_progress.proofs.Survey.{Stands.{survey_frames, SurveyAt, SurveyStands, SurveyEnds, Settles, IsSettledIn}, Turns.IsUncontradicted}
+use Rattle.{dali_progress.proofs.{Surveying.{quiet_roll, quiet_draw, quiet_asked}, Later.some_same}, std.proofs.lemmas.List.append-nil}
 use Rattle.dali_script.specs.declared.orders.Input.TheVariants as input
 use Rattle.dali_script.specs.declared.stage.Stage.TheVariants as stage
 use Rattle.dali_controller.proofs.Given as given
 use Rattle.dali_events.specs.declared.event.Event.TheVariants as event
-use Rattle.dali_progress.proofs.Along.{Measure, Goes, slack_at, Argument, Runs, held_ended, runs_first, with_left, HoldsBy, holds_next, acts_from}
-use Rattle.dali_progress.proofs.Both.{never_eight, not_free, no_tries, addresses_by, put_no_enrolment, IsKnown, taken_of, lawful_now, no_enrolment_yet}
-use Rattle.dali_progress.proofs.{Census.Asked.sending_of, Frames.Seeks, Logged.{world_logged, drawn_now, kept_now, block_now}, Lone.{IsLone, Moment, IsDueOf}}
-use Rattle.dali_progress.proofs.{Lone.{due_of, heard_kept, acted_there, sent_there, lone_acted, lone_sent, acts_by, Rests}, Stands.{Sends, sends_of}}
-use Rattle.dali_progress.proofs.{Survey.Begins.{IsPut, IsNext, asks_on}, Survey.Drawn.{numbered_of, drew_apart}, Survey.Visits.{committed, begins_less, spared}}
-use Rattle.dali_progress.proofs.{Survey.Visits.{spared_few, survey_slack, turned}, Survey.Queried.{OneShort, IsTrue, below_none, IsAtHand, AreOwned, IsPassed}}
-use Rattle.dali_progress.proofs.{Survey.Queried.{core_self, unseen, unseen_was}, Survey.Sent.{SurveySent, survey_sent}, Survey.Stands.{Begun, survey_frames}}
-use Rattle.dali_progress.proofs.{Survey.Stands.{SurveyAt, SurveyStands, SurveyEnds}, Survey.Turns.IsUncontradicted, Surveying.{quiet_roll, quiet_draw}}
-use Rattle.dali_progress.proofs.{Surveying.quiet_asked}
 
 -- A SURVEY GOES ON, event by event.
 
@@ -148,17 +146,17 @@ first_acts start m o gs left told last g one holds v =
     let at : stage_of m.trace ≡ stage.Free = ap stage_of v.free ∙ stage_none in
     let begins : o ≡ beginning (next_course (machine_surveying m)) =
     given.begins_free (machine_surveying m) o g v.free (no_enrolment_yet m.last last) (never_eight m.tries v.tries) in (
-      asks_on start (machine_surveying m) o 0 gs left (record {
-        untried = v.tries;
-        loud = v.silent;
-        smooth = record { way = refl; passed = refl; unmissed = refl };
-      }) begins
+      asks_on start (machine_surveying m) o 0 gs left
+          (record { untried = v.tries; loud = v.silent; smooth = record { way = refl; passed = refl; unmissed = refl } }) begins
           (ap (begins_at (machine_surveying m)) at ∙ ap (at_rest (machine_surveying m)) last)
-          (record { unopened = v.unopened; undrawn = refl; loud = refl }) v.unasked v.first (omega arith) (λ e. subst IsSettled (sym v.kept) e)
+          (record { unopened = v.unopened; undrawn = refl; loud = refl }) v.unasked v.first (omega arith) settled
           (λ c q has. v.unmarked c) one holds v.same (below_none start.gear m.kept.enrolled gs) (count (survey_frames gs) v.frames),
       begins_less o (machine_surveying m) 1 begins (omega arith),
     )
   where
+    settled : Settles start m.kept
+    settled x has = inr (subst (λ (k : Kept). Has k.reserved x) v.kept has, λ e. subst (λ (k : Kept). Has k.enrolled x) (sym v.kept) e)
+
     count : (wake : ℕ) → 192 + wake ≤ left → 3 * (64 - 0) + wake ≤ left
     count wake enough = omega (arith, enough)
 
@@ -203,26 +201,22 @@ pub survey_acts : (start : Begun) (w : World) (q c : ℕ) (m : Machine) (i : Inp
     → KeepsPromiseNow (happens w (event.Acted c i o))
     → IsFound (controller_at (happens w (event.Acted c i o)) c) (machine_after m i o) × Holds start (machine_after m i o) (Some o) None w.gear left
     × (survey_slack (Some o) None + 1 ≤ slack_at (of_survey start) w c)
-survey_acts start w q c m i o left goes surveys here by whole known promise = (
-  so.found,
-  holds_next (First start left) (HeardSo start left) (Next start left) (machine_after m i o) o w.gear (out.0, whole),
-  out.1,
-) where
-  so : IsActedSo w c m i o
-  so = acted_so w q c m i o goes.lone goes.known surveys here by known promise
+survey_acts start w q c m i o left goes surveys here by whole known promise =
+    (so.found, holds_next (First start left) (HeardSo start left) (Next start left) (machine_after m i o) o w.gear (out.0, whole), out.1) where
+      so : IsActedSo w c m i o
+      so = acted_so w q c m i o goes.lone goes.known surveys here by known promise
 
-  out : ActsTo start (machine_after m i o) o w.gear left (controller_at w c).last (controller_at w c).told
-  out =
-      acts_from (First start left) (HeardSo start left) (Next start left) true
-      (λ j n. IsTrue n.kept.enrolled w.gear × ((b : Answer) → j ≡ input.Heard b → IsUncontradicted n) × IsWhole (machine_ordered n o))
-      (λ l t n. ActsTo start (machine_ordered n o) o w.gear left l t) w q c m i o
-      (λ last given known v. first_acts start m o w.gear left (Some input.Start) last given so.hand.one so.hand.holds v)
-      (λ p f h is given known hears. (
-        turned start (machine_heard m (Some f) h) o w.gear left given hears.stands so.hand (known.1 h refl) known.2 (put_no_enrolment p f m.last is)
-            hears.running,
-        order_slack start m p f h o w.gear left hears given,
-      )) (λ x is free given known next. committed start m x o w.gear left next.0.0 next.0.1 free is so.hand.kept.reserved given so.hand.one known.0)
-      goes.lone surveys here.due by (so.holds, so.agreed, whole) goes.holds
+      out : ActsTo start (machine_after m i o) o w.gear left (controller_at w c).last (controller_at w c).told
+      out =
+          acts_from (First start left) (HeardSo start left) (Next start left) true
+          (λ j n. IsTrue n.kept.enrolled w.gear × ((b : Answer) → j ≡ input.Heard b → IsUncontradicted n) × IsWhole (machine_ordered n o))
+          (λ l t n. ActsTo start (machine_ordered n o) o w.gear left l t) w q c m i o
+          (λ last given known v. first_acts start m o w.gear left (Some input.Start) last given so.hand.one so.hand.holds v) (λ p f h is given known hears. (
+            turned start (machine_heard m (Some f) h) o w.gear left given hears.stands so.hand (known.1 h refl) known.2 (put_no_enrolment p f m.last is)
+                hears.running,
+            order_slack start m p f h o w.gear left hears given,
+          )) (λ x is free given known next. committed start m x o w.gear left next.0.0 next.0.1 free is so.hand.kept.reserved given so.hand.one known.0)
+          goes.lone surveys here.due by (so.holds, so.agreed, whole) goes.holds
 
 -- ---------------------------------------------------------------- its frame is sent
 
@@ -299,8 +293,7 @@ sends_now m p f last whole = sends_of m.course.purpose m.course.number m.kept (s
 
 pub survey_sends : (start : Begun) (w : World) (q c : ℕ) (m : Machine) (p : ℕ) (f : Forward) (h : Answer) (left : ℕ) → Goes (of_survey start) w q c m left
     → m.last ≡ Some (Put p f) → (controller_at w c).told ≡ None → Allowed w (event.Sent c f h) → IsKnown w c f h → IsSurveyed w c
-    → h ≡ heard_of (answers_of Everyone (command_of f) 0 w.gear)
-    → (l : ℕ) × (left ≡ suc l) × IsFound (controller_at (happens w (event.Sent c f h)) c) m
+    → h ≡ heard_of (answers_of Everyone (command_of f) 0 w.gear) → (l : ℕ) × (left ≡ suc l) × IsFound (controller_at (happens w (event.Sent c f h)) c) m
     × Hears start m p f h (row_after Everyone (command_of f) 0 w.gear w.left) l
 survey_sends start w q c m p f h left goes last told here known surveyed heard =
     let lone = lone_sent w q c m p f h goes.lone last told in
@@ -392,7 +385,7 @@ pub record EndsBy (s after : SiteState) (c : ℕ) (e : End) : Type 0 where
   pub kept : machine.kept ≡ (controller_at (world after) c).records
   pub well : SurveyEnds e machine.kept machine.heard (world after).gear
   pub tabled : AreTabled (unseen (world s).gear) machine.kept.enrolled (world after).gear
-  pub settled : IsSettledAt s c → IsSettled machine.kept
+  pub settled : Settles (began_at s c) machine.kept
   pub run : IsRun after.plan after.queue after.log
   pub up : IsUp (world after) c
   pub rests : Rests (world after) after.queue
@@ -417,16 +410,18 @@ ends_so AllFound m gs well = well
 ends_so BlockFull m gs full = full
 ends_so GaveUp m gs well = well
 
-one_machine : (x y : Machine) → Some x ≡ Some y → x ≡ y
-one_machine x y e = cc
-
 pub ends : (s after : SiteState) (c : ℕ) (e : End) → EndsBy s after c e → IsSurveyDone after c e
 ends s after c e by m there =
-    subst (λ n. SurveyEndsWell e n (world after).gear) (one_machine by.machine m (sym by.there ∙ there)) (ends_so e by.machine (world after).gear by.well)
+    subst (λ n. SurveyEndsWell e n (world after).gear) (some_same by.machine m (sym by.there ∙ there)) (ends_so e by.machine (world after).gear by.well)
 
 -- settled records stay so
+pub settled_still : (start : Begun) (k : Kept) (x : Assignment) → (Has start.kept.reserved x → Has start.kept.enrolled x) → IsSettledIn start k x
+    → Has k.enrolled x
+settled_still start k x settled (inl entry) = entry
+settled_still start k x settled (inr was) = was.1 (settled was.0)
+
 pub ends_settled : (s after : SiteState) (c : ℕ) (e : End) → EndsBy s after c e → IsSettledAt s c → IsSettledAt after c
-ends_settled s after c e by settled = subst IsSettled by.kept (by.settled settled)
+ends_settled s after c e by settled = subst IsSettled by.kept (λ x has. settled_still (began_at s c) by.machine.kept x (settled x) (by.settled x has))
 
 pub tabled : (s after : SiteState) (c : ℕ) (e : End) → EndsBy s after c e → NamesAll true s (table_at after c) after
 tabled s after c e by g short in_row small is = go (by.tabled g short in_row is) where

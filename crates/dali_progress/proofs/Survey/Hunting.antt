@@ -1,25 +1,23 @@
 use Rattle.dali_progress.proofs.Below.{◌≡◌, ℕ, ◌+◌, ◌*◌, ◌<◌, ◌≤◌, inl, inr, Bool, true, false, zero, suc, List, refl, sym, ap, subst, ◌∙◌, arith, Option, Some}
 use Rattle.dali_progress.proofs.Below.{None, ◌==◌, ◌&&◌, nat_lt, if◌then◌else◌, is_some, nat_tests, count_by, LATER, MASK24, Answer, Forward, SearchAddress}
-use Rattle.dali_progress.proofs.Below.{frame_of, Command, Gear, stage_of, BlockFull, Order, Put, Stage, Ascent, asked_next, ascended, leads_to}
-use Rattle.dali_progress.proofs.Below.{asking_next, room_left, Again, Found, Nobody, Course, is_yes, least_open, sought, byte_to_send, next_unfinished}
-use Rattle.dali_progress.proofs.Below.{searching_first, asking_again, turn_of, bytes_to_send, hunting, hunted, visiting, calling, drawing}
-use Rattle.dali_progress.proofs.Below.{closing as closing_by, Machine, next_course, begins_at, beginning, has_open, hunted_to, is_hunting, question, asks_again}
-use Rattle.dali_progress.proofs.Below.{full, giving_up, undrawn, nobody_left, compared_in, asked_on, course_on, machine_ordered, asked_by, Hunting, IsGivenBy}
-use Rattle.dali_progress.proofs.Below.{IsNoEnrolment, HasShort, IsOpened, NoneNamed, gear_of, is_wanted, is_bare, OfPowered, AreTabled, IsSettled}
-use Rattle.dali_search.specs.Questions.{Asking}
-use Rattle.dali_search.specs.declared.step.Step.{Step}
+use Rattle.dali_progress.proofs.Below.{frame_of, Command, Gear, stage_of, BlockFull, Order, Put, Stage, Ascent, asked_next, ascended, leads_to, asking_next}
+use Rattle.dali_progress.proofs.Below.{room_left, Again, Found, Nobody, Course, is_yes, least_open, sought, byte_to_send, next_unfinished, searching_first}
+use Rattle.dali_progress.proofs.Below.{asking_again, turn_of, bytes_to_send, hunting, hunted, visiting, calling, drawing, closing as closing_by, Machine}
+use Rattle.dali_progress.proofs.Below.{next_course, begins_at, beginning, has_open, hunted_to, is_hunting, question, asks_again, full, giving_up, undrawn}
+use Rattle.dali_progress.proofs.Below.{nobody_left, compared_in, asked_on, course_on, machine_ordered, asked_by, Hunting, IsGivenBy, IsNoEnrolment, HasShort}
+use Rattle.dali_progress.proofs.{Below.{IsOpened, NoneNamed, gear_of, is_wanted, is_bare, OfPowered, AreTabled}, Both.{never_eight, visits_first}}
+use Rattle.dali_progress.proofs.{Frames.value_sought, Stands.search_frames, Survey.Stands.{Calm, IsHunted, Begun, IsCalledFor, Draws, called_after}}
+use Rattle.dali_progress.proofs.Survey.{Stands.{hunted_after, roll_frames, frames_after, Rises, Hunts, IsSmooth, SurveyStands, Settles}, Begins.IsNext}
+use Rattle.dali_progress.proofs.Survey.{Begins.{first_by, hunts_by, hunts_first, hunted_some, called_roll, all_taken, GoesTo}, Drawn.{those_drawn, is_undrawn}}
+use Rattle.dali_progress.proofs.Survey.{Drawn.{is_lost, bare_split, drawn_tabled, tabled_drawn, kept_at, drawn_length, undrawn_random}, Queried.unseen}
+use Rattle.dali_progress.proofs.Survey.{Rising.{bytes_same, Answered, answered_rise, rises_new, rises_in, IsReachedAt, rise_found, rise_nobody}, Turns.found_at}
+use Rattle.dali_progress.proofs.{Survey.Woken.{none_bare, opened_lost, drawn_is, drawn_none_named}, Surveying.{NoneDrawn, draw_left, roll_first, IsClear}}
+use Rattle.dali_search.specs.{Questions.Asking, declared.step.Step.Step}
 use Rattle.dali_script.specs.declared.stage.Stage.TheVariants as stage
 use Rattle.dali_search.specs.Questions as questions
 use Rattle.dali_controller.proofs.Given as given
 use Rattle.dali_events.proofs.Search.Opened as opening
 use Rattle.dali_events.proofs.Search.Wanted as wanted
-use Rattle.dali_progress.proofs.{Both.{never_eight, visits_first}, Frames.value_sought, Stands.search_frames, Survey.Stands.{Calm, IsHunted, Begun}}
-use Rattle.dali_progress.proofs.Survey.Stands.{IsCalledFor, Draws, called_after, hunted_after, roll_frames, frames_after, Rises, Hunts, IsSmooth, SurveyStands}
-use Rattle.dali_progress.proofs.{Survey.Begins.{IsNext, first_by, hunts_by, hunts_first, hunted_some, called_roll, all_taken, GoesTo}, Survey.Drawn.those_drawn}
-use Rattle.dali_progress.proofs.Survey.Drawn.{is_undrawn, is_lost, bare_split, drawn_tabled, tabled_drawn, kept_at, drawn_length, undrawn_random}
-use Rattle.dali_progress.proofs.{Survey.Queried.unseen, Survey.Rising.{bytes_same, Answered, answered_rise, rises_new, rises_in, IsReachedAt, rise_found}}
-use Rattle.dali_progress.proofs.{Survey.Rising.rise_nobody, Survey.Turns.found_at, Survey.Woken.{none_bare, opened_lost, drawn_is, drawn_none_named}}
-use Rattle.dali_progress.proofs.Surveying.{NoneDrawn, draw_left, roll_first, IsClear}
 
 -- A CONTROLLER THAT SURVEYS ACTS, while gear draw, and while it searches.
 
@@ -70,8 +68,7 @@ none_but gs all k in_row on none = go (is_undrawn (gear_of gs k)) refl where
 
 pub hunted_next : (t : Machine) (h : Answer) (r : SearchAddress) (room : ℕ) (s : Step) → t.course.purpose ≡ Hunting
     → stage_of t.trace ≡ stage.Hunted r (Some h) room → leads_to (ascended t.course.ascent (is_yes h)) ≡ s → next_course t ≡ hunted_to t s (hunted t.course h)
-hunted_next t h r room s purpose is leads =
-    ap (begins_at t) is ∙ ap (λ p. compared_in t p h) purpose ∙ ap (λ x. hunted_to t x (hunted t.course h)) leads
+hunted_next t h r room s purpose is leads = ap (begins_at t) is ∙ ap (λ p. compared_in t p h) purpose ∙ ap (λ x. hunted_to t x (hunted t.course h)) leads
 
 -- another transaction begins with its first frame
 pub begins_by : (t : Machine) (o : Order) (cs : Course) (r : SearchAddress) (room : ℕ) → o ≡ question (next_course t) r room → next_course t ≡ cs
@@ -110,7 +107,7 @@ record IsOver (start : Begun) (t : Machine) (h : Answer) (gs : List Gear) (left 
   hunted : IsHunted t.course gs
   called : t.course.ascent.found ≡ 0 → 0 < count_by is_bare gs
   clear : IsClear t.kept t.heard
-  settled : IsSettled start.kept → IsSettled t.kept
+  settled : Settles start t.kept
   all : OfPowered (those_drawn gs) HasShort
   unwanted : count_by is_wanted (those_drawn gs) ≡ 0
   tabled : AreTabled (unseen start.gear) t.kept.enrolled (those_drawn gs)
@@ -147,8 +144,7 @@ vain_over start t o h r room gs left calm asks next none v = go (has_open t) ref
   after zero (suc n) l one two enough = absurd (omega (arith, two))
 
   frames : 106 * count_by is_lost gs + 34 ≤ left
-  frames =
-      after t.course.ascent.found (count_by is_wanted (those_drawn gs)) (count_by is_lost gs) none v.unwanted v.frames
+  frames = after t.course.ascent.found (count_by is_wanted (those_drawn gs)) (count_by is_lost gs) none v.unwanted v.frames
 
   draws : nat_lt t.course.tally.draws 3 ≡ true
   draws = ap (λ n. nat_lt n 3) undrawn_yet
@@ -351,7 +347,7 @@ hunting_turns start t o (stage.Hunted r (Some h) room) gs left g st purpose is r
         hunted = v.hunted;
         called = tt;
         clear = v.clear;
-        settled = λ e x has. inl (v.settled e x has);
+        settled = λ x has. inl (v.settled x has);
         rest = 11 + search_frames there.more;
         at = (
           visits_first t.kept m there.more (those_drawn gs) (11 + search_frames there.more) answered.ready answered.unnamed there.wanted_is there.drawn

@@ -1,15 +1,14 @@
-use Rattle.dali_progress.proofs.Below.{◌≡◌, ℕ, ◌<◌, ◌≤◌, inl, inr, Bool, true, false, List, refl, sym, subst, arith, length, Option, Some, None, ◌⊎◌}
-use Rattle.dali_progress.proofs.Below.{if◌then◌else◌, ◌==◌, ◌&&◌, not, is_some, nat_le, nat_tests, count_by, MASK24, Answer, Silence, Forward, SearchAddress}
-use Rattle.dali_progress.proofs.Below.{command_of, Command, Randomise, Program, Gear, is_active, is_found, gear_taken, row_after, row_left, draws_needed}
-use Rattle.dali_progress.proofs.Below.{Everyone, needs_none, Kept, stage_of, next_stage, Put, Stage, stage_more, Course, Machine, heard_after, asked_after}
-use Rattle.dali_progress.proofs.Below.{IsWhole, Purpose, Hunting, Visiting, Closing, Asking, Calling, Drawing, Shorts, entry, block_at, gear_of, is_bare}
-use Rattle.dali_progress.proofs.Below.{row_length, AreOpening, after_at, both_pass, number_same, world}
+use Rattle.dali_progress.proofs.Below.{◌≡◌, ℕ, ◌<◌, ◌≤◌, inl, inr, Bool, true, false, List, refl, sym, subst, arith, length, Some, None, ◌⊎◌, if◌then◌else◌}
+use Rattle.dali_progress.proofs.Below.{◌==◌, ◌&&◌, not, is_some, nat_le, nat_tests, count_by, MASK24, Answer, Silence, Forward, SearchAddress, command_of}
+use Rattle.dali_progress.proofs.Below.{Command, Randomise, Program, Gear, is_active, is_found, gear_taken, row_after, row_left, draws_needed, Everyone}
+use Rattle.dali_progress.proofs.Below.{needs_none, Kept, stage_of, next_stage, Put, Stage, stage_more, Course, Machine, heard_after, asked_after, IsWhole}
+use Rattle.dali_progress.proofs.Below.{Purpose, Hunting, Visiting, Closing, Asking, Calling, Drawing, Shorts, entry, block_at, gear_of, is_bare, row_length}
+use Rattle.dali_progress.proofs.{Below.{AreOpening, after_at, both_pass, number_same, world}, Both.{left_same, none_first, none_apart, is_complete, DrawsOnce}}
+use Rattle.dali_progress.proofs.{Both.{draws_few, closed_none, IsDry, is_unnamed, names_sent}, Gives.{bare_fewer, frame_gives}, Stands.Sends}
+use Rattle.dali_progress.proofs.Survey.{Begins.IsNext, Drawn.{is_lost, count_nothing, none_of}, Goes.{Hears, of_survey, sends_now}, Stands.{Begun, Draws}}
+use Rattle.dali_progress.proofs.{Survey.{Stands.SurveyAt, Woken.{count_there, opened_lost}}, Surveying.{NoneDrawn, woken_at}, Tables.LeavesNames}
 use Rattle.dali_script.specs.declared.stage.Stage.TheVariants as stage
 use Rattle.dali_progress.proofs.Drawing as drawn
-use Rattle.dali_progress.proofs.Both.{left_same, none_first, none_apart, is_complete, DrawsOnce, draws_few, closed_none, IsDry, is_unnamed, names_sent}
-use Rattle.dali_progress.proofs.{Gives.{bare_fewer, frame_gives}, Stands.Sends, Survey.Begins.IsNext, Survey.Drawn.{is_lost, count_nothing}, Survey.Goes.Hears}
-use Rattle.dali_progress.proofs.{Survey.Goes.{of_survey, sends_now}, Survey.Stands.{Begun, Draws, SurveyAt}, Survey.Woken.{count_there, opened_lost}}
-use Rattle.dali_progress.proofs.{Surveying.{NoneDrawn, woken_at}, Tables.LeavesNames}
 
 -- THE NUMBERS THAT GEAR DRAW in a survey: if there is one for each gear with power and without short address, they are never
 -- spent. Gear draw once, if none without short address has a number; afterwards each has one.
@@ -75,18 +74,13 @@ plain_enough m gs numbers d After plain has = (
   there k h = subst (λ n. k < n) (row_length Everyone d 0 gs numbers) h
 
   back : (k : ℕ) → k < length gs → is_lost (gear_of (row_after Everyone d 0 gs numbers) k) ≡ true → is_lost (gear_of gs k) ≡ true
-  back k h =
-      after_at d (λ g after. is_lost after ≡ true → is_lost g ≡ true) (λ g off lost. lost) (λ g x on. lost_back d g x plain) gs numbers k h
+  back k h = after_at d (λ g after. is_lost after ≡ true → is_lost g ≡ true) (λ g off lost. lost) (λ g x on. lost_back d g x plain) gs numbers k h
 
 -- ---------------------------------------------------------------- gear draw
 
 -- if none without short address has a number, there are numbers
 enough_bare : (m : Machine) (gs : List Gear) (numbers : List ℕ) → NoneDrawn gs → HasNumbers m gs numbers → count_by is_bare gs ≤ length numbers
 enough_bare m gs numbers undrawn has = go (nat_le (count_by is_bare gs) (length numbers)) refl where
-  none_of : (o : Option ℕ) → not (is_some o) ≡ true → o ≡ None
-  none_of None e = refl
-  none_of (Some a) e = absurd (cc)
-
   lost : (k : ℕ) → k < length gs → is_bare (gear_of gs k) ≡ true → is_lost (gear_of gs k) ≡ true
   lost k h bare =
       let parts = both_pass (gear_of gs k).powered (not (is_some (gear_of gs k).short)) bare in
@@ -154,10 +148,8 @@ drawing_enough m s k heard after c start gs numbers left rest d h v is has =
 
     go : IsFewer gs numbers d → Draws (next_stage s d h) k after c start (row_after Everyone d 0 gs numbers) rest → (b : Bool)
         → is_complete (next_stage s d h) ≡ b → HasNumbers m (row_after Everyone d 0 gs numbers) (row_left Everyone d 0 gs numbers)
-    go fewer now false closed = λ i there lost.
-        rw (left_same Everyone d 0 gs numbers (closed_none s d h gs once closed)) (omega (arith, fewer, enough))
-    go fewer now true done = λ i there lost.
-        absurd (let none : count_by is_lost (row_after Everyone d 0 gs numbers) ≡ 0 =
+    go fewer now false closed = λ i there lost. rw (left_same Everyone d 0 gs numbers (closed_none s d h gs once closed)) (omega (arith, fewer, enough))
+    go fewer now true done = λ i there lost. absurd (let none : count_by is_lost (row_after Everyone d 0 gs numbers) ≡ 0 =
         opened_lost (row_after Everyone d 0 gs numbers)
         (subst (λ t. AreOpening (woken_at t) (row_after Everyone d 0 gs numbers)) (complete_is (next_stage s d h) done) now.draw.gear) in
         let some = count_there is_lost (row_after Everyone d 0 gs numbers) i there lost in omega (arith, none, some))

@@ -1,9 +1,8 @@
 use Rattle.dali_progress.proofs.Below.{◌≡◌, ℕ, ◌+◌, ◌<◌, ◌≤◌, ◌⊎◌, inl, inr, Bool, true, false, zero, suc, List, [], ◌∷◌, refl, sym, ap, subst, ◌∙◌, arith}
 use Rattle.dali_progress.proofs.Below.{length, Option, Some, None, ◌==◌, ◌&&◌, not, nat_lt, nat_tests, list_any_at, list_any, MASK24, RandomByte, Part, Gear}
 use Rattle.dali_progress.proofs.Below.{fresh, byte_at, answer_to, answers_of, Everyone, Assignment, Has, Kept, IsKept, InBlock, gear_of, none_answer}
-use Rattle.dali_progress.proofs.Below.{one_answers, SameGear, SameCore, both_pass, same_number, number_same, at_any, AreTabled}
-use Rattle.dali_gear.specs.Gear.{has_short}
-use Rattle.dali_progress.proofs.Survey.Drawn.{AreNumbered, DrewApart}
+use Rattle.dali_progress.proofs.{Below.{one_answers, SameGear, SameCore, both_pass, same_number, number_same, at_any, AreTabled}, Survey.Drawn.AreNumbered}
+use Rattle.{dali_progress.proofs.Survey.Drawn.DrewApart, dali_gear.specs.Gear.has_short}
 
 -- A SHORT ADDRESS IS ASKED FOR ITS RANDOM ADDRESS, of gear no two of which have one short address.
 
@@ -18,8 +17,7 @@ OneGear gs = (g h a : ℕ) → Holds gs g a → Holds gs h a → g ≡ h
 
 -- and whether they have power or not
 abbrev pub OneShort : List Gear → Type 0
-OneShort gs =
-    (g h a : ℕ) → g < length gs → h < length gs → (gear_of gs g).short ≡ Some a → (gear_of gs h).short ≡ Some a → g ≡ h
+OneShort gs = (g h a : ℕ) → g < length gs → h < length gs → (gear_of gs g).short ≡ Some a → (gear_of gs h).short ≡ Some a → g ≡ h
 
 pub one_gear : (gs : List Gear) → OneShort gs → OneGear gs
 one_gear gs one g h a first second = one g h a first.there second.there first.short second.short
@@ -170,8 +168,7 @@ passed_by g a short is = go g.powered refl (g.random == MASK24) refl (nat_lt a 6
   go true on false mask false large = inr (inr (test a large)) where
     test : (n : ℕ) → nat_lt n 64 ≡ false → 64 ≤ n
     test n large = grind (arith, nat_tests, large)
-  go true on false mask true small =
-      absurd (let all : is_seen g ≡ true = rw (on, mask, short, small) refl in let never : true ≡ false = sym all ∙ is in cc)
+  go true on false mask true small = absurd (let all : is_seen g ≡ true = rw (on, mask, short, small) refl in let never : true ≡ false = sym all ∙ is in cc)
 
 seen_not : (g : Gear) (a : ℕ) → g.short ≡ Some a → is_seen g ≡ true → IsPassed g a → ⊥
 seen_not g a short is passed = go (both_pass g.powered (not (g.random == MASK24) && below g.short) is) where

@@ -4,14 +4,13 @@ use Rattle.dali_progress.proofs.Below.{Compare, SearchHigh, SearchMiddle, Search
 use Rattle.dali_progress.proofs.Below.{Ascent, IsAscent, Knows, is_bounded, asked_next, leads_to, ascended, ascent_at_first, above, Gives, Says, bytes_apart}
 use Rattle.dali_progress.proofs.Below.{has_room, frames_to_ask, room_left, asking_next, IsTrueWay, no_question, Again, Found, Nobody, asked_drawn, says_found}
 use Rattle.dali_progress.proofs.Below.{somebody_costs, nobody_costs, first_true, above_true, sought, is_yes, byte_to_send, bytes_to_send, Hunting, HasShort}
-use Rattle.dali_progress.proofs.Below.{is_wanted, wants, OfPowered, IsOpened, NoneNamed, SameCore, AreTabled}
-use Rattle.dali_script.proofs.Transactions.{self}
-use Rattle.dali_search.specs.Questions.{Asking}
+use Rattle.dali_progress.proofs.{Below.{is_wanted, wants, OfPowered, IsOpened, NoneNamed, SameCore, AreTabled}, Frames.{IsTaken, Seeks, probe_says}}
+use Rattle.dali_progress.proofs.{Frames.{value_sought, gives_same, nobody_short, nobody_wanted}, Stands.{some_is, to_come, Sends}, Survey.Drawn.IsSoughtBy}
+use Rattle.dali_progress.proofs.{Survey.Stands.{pending, Ascends, after_rise, thirds_for, RiseStage, Rises}, Tables.{LeavesNames, tabled_left}}
+use Rattle.{dali_script.proofs.Transactions.self, dali_search.specs.Questions.Asking}
 use Rattle.dali_script.specs.declared.stage.Stage.TheVariants as stage
 use Rattle.dali_events.proofs.Search.Leaving as leaving
 use Rattle.dali_events.proofs.Search.Wanted as wanted
-use Rattle.dali_progress.proofs.{Frames.{IsTaken, Seeks, probe_says, value_sought, gives_same, nobody_short}, Stands.{some_is, to_come, Sends}}
-use Rattle.dali_progress.proofs.{Survey.Drawn.IsSoughtBy, Survey.Stands.{pending, after_rise, thirds_for, RiseStage, Rises}, Tables.{LeavesNames, tabled_left}}
 
 -- THE SEARCH THAT GOES UP, alone and undisturbed: what its questions tell, and what they cost.
 
@@ -69,8 +68,7 @@ byte_sent n r last left h some = go (r.high == n.high) refl (r.low == n.low) ref
 -- ---------------------------------------------------------------- a frame is sent
 
 abbrev pub RisenTo : Stage → Ascent → SearchAddress → List Gear → List ℕ → ℕ → Command → Answer → Type 0
-RisenTo s x n gs numbers left c h =
-    (l : ℕ) × (left ≡ suc l) × Rises true (next_stage s c h) x n (row_after Everyone c 0 gs numbers) l
+RisenTo s x n gs numbers left c h = (l : ℕ) × (left ≡ suc l) × Rises true (next_stage s c h) x n (row_after Everyone c 0 gs numbers) l
 
 -- one frame less
 rise_less : (budget after sent left costs : ℕ) → 1 ≤ after → costs ≤ budget → budget + after + suc sent ≤ left + costs
@@ -83,10 +81,8 @@ after_some zero = omega arith
 after_some (suc n) = omega arith
 
 knows_same : (gs hs : List Gear) (x : Ascent) → ((m : ℕ) → wants hs m ≡ wants gs m) → Knows (wants gs) x → Knows (wants hs) x
-knows_same gs hs x same knows = record {
-  above = λ m has. knows.above m (sym (same m) ∙ has);
-  below = λ small. let at = knows.below small in (at.0, same at.0 ∙ at.1, at.2);
-}
+knows_same gs hs x same knows =
+    record { above = λ m has. knows.above m (sym (same m) ∙ has); below = λ small. let at = knows.below small in (at.0, same at.0 ∙ at.1, at.2) }
 
 -- the same search, if the gear are the same but for what they seek
 rises_on : (s t : Stage) (x : Ascent) (n : SearchAddress) (gs hs : List Gear) (left l : ℕ) (v : Rises false s x n gs left) → SameCore gs hs
@@ -94,15 +90,17 @@ rises_on : (s t : Stage) (x : Ascent) (n : SearchAddress) (gs hs : List Gear) (l
     → Rises true t x n hs l
 rises_on s t x n gs hs left l v same at frames = record {
   before = v.before;
-  way = v.way;
-  running = v.running;
-  knows = knows_same gs hs x (λ m. leaving.core_wants gs hs m same) v.knows;
-  number = v.number;
-  ready = leaving.core_opened gs hs same v.ready;
-  unnamed = leaving.core_none_named gs hs same v.unnamed;
-  stage_is = at;
   budget = v.budget;
-  enough = rw (leaving.core_count_wanted gs hs same) v.enough;
+  ascends = record {
+    way = v.way;
+    knows = knows_same gs hs x (λ m. leaving.core_wants gs hs m same) v.knows;
+    ready = leaving.core_opened gs hs same v.ready;
+    unnamed = leaving.core_none_named gs hs same v.unnamed;
+    enough = rw (leaving.core_count_wanted gs hs same) v.enough;
+  };
+  running = v.running;
+  number = v.number;
+  stage_is = at;
   afford = v.afford;
   frames = rw (leaving.core_count_wanted gs hs same) frames;
 }
@@ -112,15 +110,11 @@ pub rises_so : (s : Stage) (x : Ascent) (n : SearchAddress) (gs : List Gear) (le
     → v.budget + after_rise (count_by is_wanted gs) + pending false s n ≤ left + frames_to_ask v.before (asked_next x) → Rises false s x n gs left
 rises_so s x n gs left v at frames = record {
   before = v.before;
-  way = v.way;
-  running = v.running;
-  knows = v.knows;
-  number = v.number;
-  ready = v.ready;
-  unnamed = v.unnamed;
-  stage_is = at;
   budget = v.budget;
-  enough = v.enough;
+  ascends = v.ascends;
+  running = v.running;
+  number = v.number;
+  stage_is = at;
   afford = v.afford;
   frames = frames;
 }
@@ -202,8 +196,7 @@ rises_sent (stage.LowSent high low) k x n gs numbers left c h v is taken seek =
       less.1,
       rises_on (stage.LowSent high low) (stage.Hunted (record { high = high; middle = n.middle; low = low }) None 5) x n gs _ left less.0 v
           (leaving.core_after (SearchMiddle n.middle) gs numbers tt) (let none = none_left n high low v.stage_is.0 v.stage_is.1 in
-          let room = (new_room v.before (asked_next x) v.stage_is.2).0 in rw (none, room) refl)
-          (rw (none_left n high low v.stage_is.0 v.stage_is.1) less.2),
+          let room = (new_room v.before (asked_next x) v.stage_is.2).0 in rw (none, room) refl) (rw (none_left n high low v.stage_is.0 v.stage_is.1) less.2),
     )
 rises_sent (stage.Hunted r None room) k x n gs numbers left c h v is taken seek =
     hunted_sent r None room x n gs numbers left h v v.stage_is v.frames c is taken seek
@@ -231,16 +224,10 @@ unbounded_where gs x knows none = go (is_bounded x) refl where
 
 -- what is known of the ascent after an answer, and of the transaction that has asked
 pub record Answered (x : Ascent) (q : Asking) (gs : List Gear) (left : ℕ) : Type 0 where
-  pub way : IsTrueWay x q
-  pub knows : Knows (wants gs) x
-  pub ready : IsOpened gs
-  pub unnamed : NoneNamed gs
   pub budget : ℕ
-  pub enough : thirds_for (count_by is_wanted gs) x q ≤ 3 * budget
+  pub ascends : Ascends x q gs budget
+  pub open ascends use *
   pub frames : budget + after_rise (count_by is_wanted gs) ≤ left
-
-nobody_where : (gs : List Gear) → count_by is_wanted gs ≡ 0 → (m : ℕ) → wants gs m ≡ true → ⊥
-nobody_where gs none m has = let some : 0 < count_by is_wanted gs = wanted.count_some gs m has in omega (arith, some, none)
 
 silent_some : (gs : List Gear) (x : Ascent) (more : ℕ) → IsAscent x → Knows (wants gs) x → IsOpened gs → count_by is_wanted gs ≡ suc more → x.silent ≡ 0
 silent_some gs x more is knows ready count = go (x.silent == 0) refl where
@@ -275,17 +262,13 @@ answered_rise r h room x n gs left v = go (count_by is_wanted gs) refl (is_yes h
 
   go : (count : ℕ) → count_by is_wanted gs ≡ count → (b : Bool) → Gives (wants gs) (asked_next x) b → thirds_for count x v.before ≤ 3 * v.budget
       → v.budget + after_rise count + 0 ≤ left + frames_to_ask v.before (asked_next x) → Answered (ascended x b) (asking_next v.before (asked_next x)) gs left
-  go zero is true gives enough frames = absurd (nobody_where gs is gives.0 gives.1)
+  go zero is true gives enough frames = absurd (nobody_wanted gs is gives.0 gives.1)
   go zero is false gives enough frames =
-      let costs = nobody_costs x v.before v.way v.running (unbounded_where gs x v.knows (nobody_where gs is)) in
+      let costs = nobody_costs x v.before v.way v.running (unbounded_where gs x v.knows (nobody_wanted gs is)) in
       let rest = spent (frames_to_ask v.before (asked_next x)) _ _ v.budget 1 left costs.0 enough frames in
       record {
-        way = costs.1;
-        knows = knows false gives;
-        ready = v.ready;
-        unnamed = v.unnamed;
         budget = v.budget - frames_to_ask v.before (asked_next x);
-        enough = rw is rest.0;
+        ascends = record { way = costs.1; knows = knows false gives; ready = v.ready; unnamed = v.unnamed; enough = rw is rest.0 };
         frames = rw is rest.1;
       }
   go (suc more) is b gives enough frames =
@@ -294,12 +277,8 @@ answered_rise r h room x n gs left v = go (count_by is_wanted gs) refl (is_yes h
       (never_last gs (asked_next x) more b v.ready is gives) in
       let rest = spent (frames_to_ask v.before (asked_next x)) _ _ v.budget (after_rise (suc more)) left costs.0 enough frames in
       record {
-        way = costs.1;
-        knows = knows b gives;
-        ready = v.ready;
-        unnamed = v.unnamed;
         budget = v.budget - frames_to_ask v.before (asked_next x);
-        enough = rw is rest.0;
+        ascends = record { way = costs.1; knows = knows b gives; ready = v.ready; unnamed = v.unnamed; enough = rw is rest.0 };
         frames = rw is rest.1;
       }
 
@@ -310,7 +289,7 @@ afford_of x q gs left v again = go (count_by is_wanted gs) refl v.enough where
   some costs thirds before budget one two = omega (arith, one, two)
 
   go : (count : ℕ) → count_by is_wanted gs ≡ count → thirds_for count x q ≤ 3 * v.budget → frames_to_ask q (asked_next x) ≤ v.budget
-  go zero is enough = some _ _ _ _ (nobody_costs x q v.way again (unbounded_where gs x v.knows (nobody_where gs is))).0 enough
+  go zero is enough = some _ _ _ _ (nobody_costs x q v.way again (unbounded_where gs x v.knows (nobody_wanted gs is))).0 enough
   go (suc more) is enough = some _ _ _ _ (somebody_costs x q true v.way again (silent_some gs x more v.way.way.is v.knows v.ready is) (λ no. cc)).0 enough
 
 -- the next question begins a transaction, or goes on in the one that runs
@@ -318,15 +297,11 @@ pub rises_new : (x : Ascent) (q : Asking) (gs : List Gear) (left : ℕ) → Answ
     → Rises false stage.Free x (sought (asked_next x)) gs left
 rises_new x q gs left v again none = record {
   before = q;
-  way = v.way;
-  running = again;
-  knows = v.knows;
-  number = refl;
-  ready = v.ready;
-  unnamed = v.unnamed;
-  stage_is = none;
   budget = v.budget;
-  enough = v.enough;
+  ascends = v.ascends;
+  running = again;
+  number = refl;
+  stage_is = none;
   afford = afford_of x q gs left v again;
   frames = let four : frames_to_ask q (asked_next x) ≡ 4 = (new_room q (asked_next x) none).1 in
       let frames : v.budget + after_rise (count_by is_wanted gs) ≤ left = v.frames in omega (arith, four, frames);
@@ -336,15 +311,11 @@ pub rises_in : (x : Ascent) (q : Asking) (gs : List Gear) (left : ℕ) (r : Sear
     → r ≡ sought q.number → room ≡ q.room → has_room q (asked_next x) ≡ true → Rises false (stage.Hunted r (Some h) room) x (sought (asked_next x)) gs left
 rises_in x q gs left r h room v again at room_is some = record {
   before = q;
-  way = v.way;
-  running = again;
-  knows = v.knows;
-  number = refl;
-  ready = v.ready;
-  unnamed = v.unnamed;
-  stage_is = rw (bytes, left_is) (omega (arith, room_is, fits));
   budget = v.budget;
-  enough = v.enough;
+  ascends = v.ascends;
+  running = again;
+  number = refl;
+  stage_is = rw (bytes, left_is) (omega (arith, room_is, fits));
   afford = afford_of x q gs left v again;
   frames = rw (bytes, costs) (let frames : v.budget + after_rise (count_by is_wanted gs) ≤ left = v.frames in omega (arith, frames));
 } where
@@ -375,15 +346,9 @@ rise_found x q gs left m v is = go (count_by is_wanted gs) refl v.frames where
   says = subst (Says (wants gs)) is (says_found (wants gs) x v.way.way.is (λ k has. wanted.wanted_below gs k v.ready has) v.knows)
 
   go : (count : ℕ) → count_by is_wanted gs ≡ count → v.budget + after_rise count ≤ left → IsReachedAt x m gs left
-  go zero none frames = absurd (nobody_where gs none m says.0)
-  go (suc more) count frames = record {
-    wanted_is = says.0;
-    drawn = wanted.wanted_below gs m v.ready says.0;
-    least = says.1;
-    more = more;
-    count = count;
-    frames = omega (arith, frames);
-  }
+  go zero none frames = absurd (nobody_wanted gs none m says.0)
+  go (suc more) count frames =
+      record { wanted_is = says.0; drawn = wanted.wanted_below gs m v.ready says.0; least = says.1; more = more; count = count; frames = omega (arith, frames) }
 
 -- no gear is: each gear with power has a short address
 pub rise_nobody : (x : Ascent) (q : Asking) (gs : List Gear) (left : ℕ) → Answered x q gs left → leads_to x ≡ Nobody → OfPowered gs HasShort × (1 ≤ left)
@@ -402,8 +367,9 @@ rises_anew : (x : Ascent) (gs : List Gear) (left budget : ℕ) → IsTrueWay x n
     → thirds_for (count_by is_wanted gs) x no_question ≤ 3 * budget → budget + after_rise (count_by is_wanted gs) ≤ left
     → Rises false stage.Free x (sought (asked_next x)) gs left
 rises_anew x gs left budget way again knows ready unnamed enough frames =
-    rises_new x no_question gs left (record { way = way; knows = knows; ready = ready; unnamed = unnamed; budget = budget; enough = enough; frames = frames })
-    again (nothing_before (asked_next x))
+    rises_new x no_question gs left
+    (record { budget = budget; ascends = record { way = way; knows = knows; ready = ready; unnamed = unnamed; enough = enough }; frames = frames }) again
+    (nothing_before (asked_next x))
 
 pub rises_first : (gs : List Gear) (left : ℕ) → IsOpened gs → NoneNamed gs → 106 * count_by is_wanted gs + 10 ≤ left
     → Rises false stage.Free ascent_at_first (sought (asked_next ascent_at_first)) gs left
@@ -430,8 +396,7 @@ rises_above x r gs left is small past ready unnamed frames = go (count_by is_wan
 
   go : (count : ℕ) → count_by is_wanted gs ≡ count → 106 * count + 32 ≤ left → Rises false stage.Free (above x r) (sought (asked_next (above x r))) gs left
   go zero counts frames = begins 31 (rw (counts, (above_true x r no_question is small refl).2) (omega arith)) (rw counts (omega (arith, frames)))
-  go (suc more) counts frames =
-      begins 95 (rw (counts, (above_true x r no_question is small refl).1) (omega arith)) (rw counts (omega (arith, frames)))
+  go (suc more) counts frames = begins 95 (rw (counts, (above_true x r no_question is small refl).1) (omega arith)) (rw counts (omega (arith, frames)))
 
 -- ---------------------------------------------------------------- the table
 
@@ -494,9 +459,6 @@ rising_sought stage.Free k x n gs hs left c v is seek = subst (IsSoughtBy gs) (s
 rising_sought (stage.HighSent high) k x n gs hs left c v is seek = subst (IsSoughtBy gs) (some_is (SearchLow n.low) c is) tt
 rising_sought (stage.LowSent high low) k x n gs hs left c v is seek = subst (IsSoughtBy gs) (some_is (SearchMiddle n.middle) c is) tt
 rising_sought (stage.Hunted r last room) k x n gs hs left c v is seek =
-    subst (IsSoughtBy gs) (sym is) (byte_sought n r gs (λ same. (
-      r,
-      seek r refl,
-      subst (λ m. m < MASK24) (sym (ap value_of (same ∙ v.number) ∙ value_sought (asked_next x))) (asked_drawn x v.way.way.is v.running),
-    )))
+    subst (IsSoughtBy gs) (sym is) (byte_sought n r gs (λ same.
+    (r, seek r refl, subst (λ m. m < MASK24) (sym (ap value_of (same ∙ v.number) ∙ value_sought (asked_next x))) (asked_drawn x v.way.way.is v.running))))
 rising_sought _ k x n gs hs left c v is seek = absurd v.stage_is

@@ -1,26 +1,25 @@
 use Rattle.dali_progress.proofs.Below.{◌≡◌, ℕ, ◌+◌, ◌*◌, ◌<◌, ◌≤◌, inl, inr, true, false, suc, List, refl, sym, ap, subst, ◌∙◌, arith, Bool, zero, ◌-◌, [], ◌∷◌}
-use Rattle.dali_progress.proofs.Below.{Option, Some, None, if◌then◌else◌, ◌%◌, nat_lt, ◌&&◌, nat_tests, count_by, value_of, MASK24, Answer, Silence, Byte}
-use Rattle.dali_progress.proofs.Below.{Damaged, SearchAddress, Command, Withdraw, SearchHigh, SearchMiddle, SearchLow, QueryShort, Terminate, RandomByte, High}
-use Rattle.dali_progress.proofs.Below.{Middle, Low, Gear, draws_a_number, row_after, takes, left_after, drawn_one, drawn_of, answers_of, heard_of, Everyone}
-use Rattle.dali_progress.proofs.Below.{needs_none, Kept, Has, next_stage, queried, verified, byte_heard, number_heard, Stage, End, AllFound, BlockFull, GaveUp}
-use Rattle.dali_progress.proofs.Below.{middle_next, low_next, Ascent, asked_next, Purpose, Visiting, Hunting, Calling, Drawing, Opening, Probing, Resolving}
-use Rattle.dali_progress.proofs.Below.{Closing, Asking, PassingOver, Shorts, Course, sought, heard_after, asked_after, asked_after_silence, asked_at, marked_at}
-use Rattle.dali_progress.proofs.Below.{wants, is_wanted, is_bare, SameCore, LeavesCore, LeavesShort, AreTabled}
+use Rattle.dali_progress.proofs.Below.{Option, Some, None, if◌then◌else◌, nat_lt, ◌&&◌, nat_tests, count_by, value_of, MASK24, Answer, Silence, Byte, Damaged}
+use Rattle.dali_progress.proofs.Below.{SearchAddress, Command, Withdraw, SearchHigh, SearchMiddle, SearchLow, QueryShort, Terminate, RandomByte, High, Middle}
+use Rattle.dali_progress.proofs.Below.{Low, Gear, draws_a_number, row_after, takes, left_after, drawn_one, drawn_of, answers_of, heard_of, Everyone, needs_none}
+use Rattle.dali_progress.proofs.Below.{Kept, Has, next_stage, queried, verified, byte_heard, number_heard, Stage, End, AllFound, BlockFull, GaveUp, middle_next}
+use Rattle.dali_progress.proofs.Below.{low_next, Ascent, asked_next, Purpose, Visiting, Hunting, Calling, Drawing, Opening, Probing, Resolving, Closing, Asking}
+use Rattle.dali_progress.proofs.Below.{PassingOver, Shorts, Course, sought, heard_after, asked_after, asked_after_silence, asked_at, marked_at, wants}
+use Rattle.dali_progress.proofs.{Below.{is_wanted, is_bare, SameCore, LeavesCore, LeavesShort, AreTabled}, Frames.{Seeks, IsTaken, one_less, at_sent}}
+use Rattle.dali_progress.proofs.{Frames.{value_sought, low_byte}, Later.{queried_by, verified_by}, Stands.{search_frames, VisitFrames, VisitsAt, Sends}}
+use Rattle.dali_progress.proofs.{Stands.{visit_by, some_is, to_come}, Survey.Stands.{IsBehind, IsLeastAt, IsReached, HuntAt, Begun, roll_frames, Calls, Draws}}
+use Rattle.dali_progress.proofs.Survey.Stands.{survey_frames, silent_left, asked_left, Counts, AskCount, called_after, hunted_after, frames_after, IsCalledFor}
+use Rattle.dali_progress.proofs.Survey.{Stands.{surplus, Hunts, SurveyEnds, SurveyCloses, SurveyAt}, Begins.{roll_some, roll_none}, Drawn.those_drawn}
+use Rattle.dali_progress.proofs.Survey.Drawn.{is_lost, AreNumbered, IsSearching, IsSoughtBy, not_randomise, row_drawn, answers_drawn, searching_of, no_draw}
+use Rattle.dali_progress.proofs.Survey.{Drawn.{still_of, lost_same, seek_drawn, apart_drawn, DrewApart}, Queried.{unseen, core_then, holds_back, IsAtHand}}
+use Rattle.dali_progress.proofs.Survey.{Queried.below_on, Rising.{rises_sent, rising_one, rising_tabled, rising_sought}, Woken.{bare_after, lost_after}}
+use Rattle.dali_progress.proofs.{Survey.Woken.{drew_after, IsByteLow, low_after, all_left}, Surveying.{IsTakenBut, RollSent, DrawSent, call_sent, draw_left}}
+use Rattle.dali_progress.proofs.{Surveying.{roll_sent, draw_sent, draws_short, draws_tabled, AskedAt, asked_sent}, Tables.{tabled_left, IsTabledTo, at_tabled}}
 use Rattle.dali_search.specs.Least.{at_first}
 use Rattle.dali_script.specs.declared.stage.Stage.TheVariants as stage
 use Rattle.dali_events.proofs.Search.Leaving as leaving
 use Rattle.dali_events.proofs.Search.Programming as programming
 use Rattle.dali_events.proofs.Search.Withdrawing as withdrawing
-use Rattle.dali_progress.proofs.{Frames.{Seeks, IsTaken, one_less, at_sent, value_sought}, Later.{queried_by, verified_by}, Stands.{search_frames, VisitFrames}}
-use Rattle.dali_progress.proofs.{Stands.{VisitsAt, Sends, visit_by, some_is, to_come}, Survey.Stands.{IsBehind, IsLeastAt, IsReached, HuntAt, Begun}}
-use Rattle.dali_progress.proofs.Survey.Stands.{roll_frames, Calls, Draws, survey_frames, silent_left, asked_left, Counts, AskCount, called_after, hunted_after}
-use Rattle.dali_progress.proofs.{Survey.Stands.{frames_after, IsCalledFor, surplus, Hunts, SurveyEnds, SurveyCloses, SurveyAt}, Survey.Begins.roll_some}
-use Rattle.dali_progress.proofs.{Survey.Begins.roll_none, Survey.Drawn.{those_drawn, is_lost, AreNumbered, IsSearching, IsSoughtBy, not_randomise, row_drawn}}
-use Rattle.dali_progress.proofs.Survey.Drawn.{answers_drawn, searching_of, no_draw, still_of, lost_same, seek_drawn, apart_drawn, DrewApart}
-use Rattle.dali_progress.proofs.{Survey.Queried.{unseen, core_then, holds_back, IsAtHand, below_on}, Survey.Rising.{rises_sent, rising_one, rising_tabled}}
-use Rattle.dali_progress.proofs.{Survey.Rising.rising_sought, Survey.Woken.{bare_after, lost_after, drew_after, IsByteLow, low_after, all_left}}
-use Rattle.dali_progress.proofs.Surveying.{IsTakenBut, RollSent, DrawSent, call_sent, draw_left, roll_sent, draw_sent, draws_short, draws_tabled, AskedAt}
-use Rattle.dali_progress.proofs.{Surveying.asked_sent, Tables.{tabled_left, IsTabledTo, at_tabled}}
 
 -- THE GEAR THAT IS VISITED is the least that is wanted; and how many gear are behind: that are counted with more frames than
 -- the search needs for them.
@@ -96,8 +95,7 @@ pub behind_sent : (p : Purpose) (s : Stage) (k : Kept) (x : Ascent) (n : SearchA
     (h : Answer) → IsHunt p → left ≡ suc l → HuntAt false p s k x n gs left → Sends p n k s c → Seeks s gs → IsBehind p s behind gs left
     → IsBehind p (next_stage s c h) behind (row_after Everyone c 0 gs numbers) l
 behind_sent Hunting s k x n gs numbers left l behind c h hunt less at is seek count = count
-behind_sent Visiting s k x n gs numbers left l behind c h hunt less at is seek count =
-    visit_behind s k n gs numbers left l behind c h less at.0 is seek count
+behind_sent Visiting s k x n gs numbers left l behind c h hunt less at is seek count = visit_behind s k n gs numbers left l behind c h less at.0 is seek count
 behind_sent _ s k x n gs numbers left l behind c h hunt less at is seek count = absurd hunt
 
 -- and more frames are left than it is behind
@@ -147,8 +145,7 @@ roll_least silent drawn lost = go (drawn + lost) refl where
   go (suc n) is = rw (roll_some silent drawn lost (omega (arith, is))) (omega arith)
 
 abbrev CalledTo : Stage → Kept → Shorts → Course → Begun → List Gear → List ℕ → ℕ → Command → Answer → Type 0
-CalledTo s k heard c start gs numbers left d h =
-    (l : ℕ) × (left ≡ suc l) × Calls (next_stage s d h) k heard c start (row_after Everyone d 0 gs numbers) l
+CalledTo s k heard c start gs numbers left d h = (l : ℕ) × (left ≡ suc l) × Calls (next_stage s d h) k heard c start (row_after Everyone d 0 gs numbers) l
 
 calls_sent : (s : Stage) (k : Kept) (heard : Shorts) (c : Course) (start : Begun) (gs : List Gear) (numbers : List ℕ) (left : ℕ) (d : Command) (h : Answer)
     → Calls s k heard c start gs left → Sends Calling c.number k s d → IsTaken d gs numbers h → IsAtHand k gs → Seeks s gs
@@ -185,8 +182,7 @@ calls_sent s k heard c start gs numbers left d h v is t told seek = (
 -- ---------------------------------------------------------------- gear draw
 
 abbrev DrawnTo : Stage → Kept → Shorts → Course → Begun → List Gear → List ℕ → ℕ → Command → Answer → Type 0
-DrawnTo s k heard c start gs numbers left d h =
-    (l : ℕ) × (left ≡ suc l) × Draws (next_stage s d h) k heard c start (row_after Everyone d 0 gs numbers) l
+DrawnTo s k heard c start gs numbers left d h = (l : ℕ) × (left ≡ suc l) × Draws (next_stage s d h) k heard c start (row_after Everyone d 0 gs numbers) l
 
 draws_less : (rest bare left : ℕ) → suc rest + 106 * bare + 26 ≤ left → (l : ℕ) × (left ≡ suc l) × (rest + 106 * bare + 26 ≤ l)
 draws_less rest bare zero enough = absurd (omega (arith, enough))
@@ -215,8 +211,7 @@ draws_sent s k heard c start gs numbers left d h v is t told = (
   same = leaving.count_bare_after d gs numbers (draws_short d gs to.does)
 
   less : (l : ℕ) × (left ≡ suc l) × (draw_left (next_stage s d h) + 106 * count_by is_bare gs + 26 ≤ l)
-  less =
-      draws_less (draw_left (next_stage s d h)) (count_by is_bare gs) left (subst (λ n. n + 106 * count_by is_bare gs + 26 ≤ left) (to.one refl) v.frames)
+  less = draws_less (draw_left (next_stage s d h)) (count_by is_bare gs) left (subst (λ n. n + 106 * count_by is_bare gs + 26 ≤ left) (to.one refl) v.frames)
 
 -- A FRAME OF A SURVEY IS SENT, and one frame less is left.
 
@@ -314,8 +309,7 @@ visiting_sought s k n gs hs left c v is seek =
     visit_by (λ t d. VisitsAt t k n hs left → Seeks t gs → IsSoughtBy gs d) n k hs left (λ w by. tt) (λ high w by. tt) (λ high middle w by. tt)
     (λ r w by. (r, by r refl, visited_below n r w.visited.number w.searched w.visited.number_is w.visited.drawn))
     (λ r a small has w by. (r, by r refl, visited_below n r w.visited.number w.searched w.visited.number_is w.visited.drawn))
-    (λ r a w by. (r, by r refl, visited_below n r w.visited.number (sym w.searched) w.visited.number_is w.visited.drawn))
-    (λ r a w by. tt) s c v is v seek
+    (λ r a w by. (r, by r refl, visited_below n r w.visited.number (sym w.searched) w.visited.number_is w.visited.drawn)) (λ r a w by. tt) s c v is v seek
 
 seeks_drawn : (s : Stage) (gs : List Gear) → Seeks s gs → Seeks s (those_drawn gs)
 seeks_drawn s gs seek r at = seek_drawn gs r (seek r at)
@@ -364,11 +358,8 @@ hunt_sent : (p : Purpose) (s : Stage) (k : Kept) (x : Ascent) (n : SearchAddress
     → (l : ℕ) × (left ≡ suc l) × HuntAt true p (next_stage s c h) k x n (row_after Everyone c 0 gs numbers) l
 hunt_sent Hunting s k x n gs numbers left c h hunt at is taken seek = rises_sent s k x n gs numbers left c h at is taken seek
 hunt_sent Visiting s k x n gs numbers left c h hunt at is taken seek =
-    let sent = at_sent Visiting s k true at_first n gs numbers left c h (refl, at.0) is taken seek in (
-      sent.0,
-      sent.1,
-      (sent.2.1, record { is = at.1.is; reached = at.1.reached; least = least_sent s k x n gs numbers left c h at.0 is seek at.1 }),
-    )
+    let sent = at_sent Visiting s k true at_first n gs numbers left c h (refl, at.0) is taken seek in
+    (sent.0, sent.1, (sent.2.1, record { is = at.1.is; reached = at.1.reached; least = least_sent s k x n gs numbers left c h at.0 is seek at.1 }))
 hunt_sent _ s k x n gs numbers left c h hunt at is taken seek = absurd hunt
 
 hunt_tabled : (before : List Gear) (p : Purpose) (s : Stage) (k : Kept) (x : Ascent) (n : SearchAddress) (gs : List Gear) (numbers : List ℕ) (left rest : ℕ)
@@ -386,17 +377,11 @@ visiting_low : (s : Stage) (k : Kept) (n : SearchAddress) (gs : List Gear) (left
     → IsByteLow c
 visiting_low s k n gs left c v is =
     visit_by (λ t d. VisitsAt t k n gs left → IsByteLow d) n k gs left (λ w. tt) (λ high w. tt)
-    (λ high middle w. subst (λ (m : SearchAddress). m.low < 256) (sym w.visited.number_is) (low_byte w.visited.number)) (λ r w. tt) (λ r a small has w. tt)
-    (λ r a w. tt) (λ r a w. tt) s c v is v where
-      low_byte : (r : ℕ) → r % 256 < 256
-      low_byte r = omega arith
+    (λ high middle w. low_byte n w.visited.number w.visited.number_is) (λ r w. tt) (λ r a small has w. tt) (λ r a w. tt) (λ r a w. tt) s c v is v
 
 hunt_low : (p : Purpose) (s : Stage) (k : Kept) (x : Ascent) (n : SearchAddress) (gs : List Gear) (left : ℕ) (c : Command) → IsHunt p
     → HuntAt false p s k x n gs left → Sends p n k s c → IsByteLow c
-hunt_low Hunting s k x n gs left c hunt at is =
-    rising_one IsByteLow s k x n gs left c tt (subst (λ (m : SearchAddress). m.low < 256) (sym at.number) (low_byte (asked_next x))) tt tt at is where
-      low_byte : (r : ℕ) → r % 256 < 256
-      low_byte r = omega arith
+hunt_low Hunting s k x n gs left c hunt at is = rising_one IsByteLow s k x n gs left c tt (low_byte n (asked_next x) at.number) tt tt at is
 hunt_low Visiting s k x n gs left c hunt at is = visiting_low s k n gs left c at.0 is
 hunt_low _ s k x n gs left c hunt at is = absurd hunt
 
@@ -454,8 +439,7 @@ hunts_sent p s k heard c start gs numbers left d h hunt v is t told seek = (
   by = hunted_by p s k c.ascent c.number gs v.rest d hunt v.at is seek
 
   sent : (l : ℕ) × (v.rest ≡ suc l) × HuntAt true p (next_stage s d h) k c.ascent c.number (row_after Everyone d 0 (those_drawn gs) numbers) l
-  sent =
-      hunt_sent p s k c.ascent c.number (those_drawn gs) numbers v.rest d h hunt v.at is (taken_drawn d gs numbers h by t told.apart) (seeks_drawn s gs seek)
+  sent = hunt_sent p s k c.ascent c.number (those_drawn gs) numbers v.rest d h hunt v.at is (taken_drawn d gs numbers h by t told.apart) (seeks_drawn s gs seek)
 
   row : row_after Everyone d 0 (those_drawn gs) numbers ≡ those_drawn (row_after Everyone d 0 gs numbers)
   row = row_drawn d 0 gs numbers (searching_of gs d by) (still_of gs d by)
@@ -470,8 +454,7 @@ hunts_sent p s k heard c start gs numbers left d h hunt v is t told seek = (
 ends_still : (e : End) (k : Kept) (heard : Shorts) (gs : List Gear) (numbers : List ℕ) → SurveyEnds e k heard gs
     → SurveyEnds e k heard (row_after Everyone Terminate 0 gs numbers)
 ends_still AllFound k heard gs numbers all = all_left Terminate gs numbers tt all
-ends_still BlockFull k heard gs numbers well =
-    (subst (λ n. 0 < n) (sym (leaving.count_bare_after Terminate gs numbers tt)) well.0, well.1)
+ends_still BlockFull k heard gs numbers well = (subst (λ n. 0 < n) (sym (leaving.count_bare_after Terminate gs numbers tt)) well.0, well.1)
 ends_still GaveUp k heard gs numbers well = well
 
 abbrev ClosedTo : End → Stage → Kept → Shorts → Begun → List Gear → List ℕ → ℕ → Command → Answer → Type 0

@@ -4,12 +4,10 @@ use Rattle.dali_progress.proofs.Below.{GaveUp, Stage, Ascent, IsAscent, Knows, a
 use Rattle.dali_progress.proofs.Below.{thirds_to_somebody, thirds_to_nobody, IsTrueWay, Again, Found as Reached, Course, is_yes, sought, bytes_to_send, Machine}
 use Rattle.dali_progress.proofs.Below.{has_short, none_passed, Purpose, Opening, Probing, Visiting, Resolving, Closing, Hunting, Asking as Counting, Calling}
 use Rattle.dali_progress.proofs.Below.{Drawing, PassingOver, Shorts, Tally, Surveying, Passed, Way, HasShort, is_bare, is_wanted, wants, OfPowered, IsOpened}
-use Rattle.dali_progress.proofs.Below.{NoneNamed, SameCore, AreTabled, IsSettled}
-use Rattle.dali_search.specs.Questions.{Asking}
+use Rattle.dali_progress.proofs.{Below.{NoneNamed, SameCore, AreTabled}, Stands.{to_come, search_frames, VisitsAt, CloseStage, sent_at}}
+use Rattle.dali_progress.proofs.{Survey.{Drawn.{those_drawn, is_lost}, Queried.{Nobody, TabledBelow, unseen}, Woken.AreLow}, Surveying.{IsRollCall, IsDraw}}
+use Rattle.{dali_progress.proofs.Surveying.{call_sent, draw_left, IsAskedOf, IsClear}, dali_search.specs.Questions.Asking}
 use Rattle.dali_script.specs.declared.stage.Stage.TheVariants as stage
-use Rattle.dali_progress.proofs.{Stands.{to_come, search_frames, VisitsAt, CloseStage, sent_at}, Survey.Drawn.{those_drawn, is_lost}, Survey.Queried.Nobody}
-use Rattle.dali_progress.proofs.{Survey.Queried.{TabledBelow, unseen}, Survey.Woken.AreLow, Surveying.{IsRollCall, IsDraw, call_sent, draw_left, IsAskedOf}}
-use Rattle.dali_progress.proofs.{Surveying.IsClear}
 
 -- HOW FAR A SURVEY IS, if nothing is disturbed. `start` are the gear at its start.
 
@@ -17,6 +15,13 @@ use Rattle.dali_progress.proofs.{Surveying.IsClear}
 pub record Begun : Type 0 where
   pub gear : List Gear
   pub kept : Kept
+
+-- what is reserved is enrolled; or it was reserved then, and is enrolled if it was then
+abbrev pub IsSettledIn : Begun → Kept → Assignment → Type 0
+IsSettledIn start k x = Has k.enrolled x ⊎ (Has start.kept.reserved x × (Has start.kept.enrolled x → Has k.enrolled x))
+
+abbrev pub Settles : Begun → Kept → Type 0
+Settles start k = (x : Assignment) → Has k.reserved x → IsSettledIn start k x
 
 -- ---------------------------------------------------------------- the census
 
@@ -53,7 +58,7 @@ AskCount _ a asked gs = Unit {0}
 pub record Counts (a : ℕ) (s : Stage) (k : Kept) (heard : Shorts) (asked from : ℕ) (start : Begun) (gs : List Gear) (left : ℕ) : Type 0 where
   pub ask : IsAskedOf a s k heard gs
   pub from_is : from ≡ a + 1
-  pub settled : IsSettled start.kept → IsSettled k
+  pub settled : Settles start k
   pub same : SameCore start.gear gs
   pub count : AskCount s a asked gs
   pub tabled : TabledBelow a start.gear k.enrolled gs
@@ -74,8 +79,7 @@ hunted_after (suc found) lost = called_after lost
 
 -- a roll call, with so many gear without short address that drew a number, and so many that never did
 abbrev pub roll_frames : Bool → ℕ → ℕ → ℕ
-roll_frames silent drawn lost =
-    if drawn + lost == 0 then (if silent then 9 else 17) else 106 * drawn + 17 + hunted_after drawn lost
+roll_frames silent drawn lost = if drawn + lost == 0 then (if silent then 9 else 17) else 106 * drawn + 17 + hunted_after drawn lost
 
 -- once gear have drawn a number, each has one
 abbrev pub IsFirstDraw : Tally → List Gear → Type 0
@@ -89,7 +93,7 @@ pub record Calls (s : Stage) (k : Kept) (heard : Shorts) (c : Course) (start : B
   pub quiet : c.tally.is_silent ≡ true → count_by is_bare gs ≡ 0
   pub first : IsFirstDraw c.tally gs
   pub clear : IsClear k heard
-  pub settled : IsSettled start.kept → IsSettled k
+  pub settled : Settles start k
   pub tabled : AreTabled (unseen start.gear) k.enrolled gs
   pub frames : roll_frames c.tally.is_silent (count_by is_bare (those_drawn gs)) (count_by is_lost gs) ≤ left + call_sent s
 
@@ -101,16 +105,16 @@ pub record Draws (s : Stage) (k : Kept) (heard : Shorts) (c : Course) (start : B
   pub loud : c.tally.is_silent ≡ false
   pub somebody : 0 < count_by is_bare gs
   pub clear : IsClear k heard
-  pub settled : IsSettled start.kept → IsSettled k
+  pub settled : Settles start k
   pub tabled : AreTabled (unseen start.gear) k.enrolled gs
   pub frames : draw_left s + 106 * count_by is_bare gs + 26 ≤ left
 
 -- ---------------------------------------------------------------- the hunts
 
 -- what is reserved is enrolled, but for the number that is visited
-abbrev pub IsSettledBut : Purpose → SearchAddress → Kept → Type 0
-IsSettledBut Visiting n k = (x : Assignment) → Has k.reserved x → Has k.enrolled x ⊎ (x.1 ≡ value_of n)
-IsSettledBut p n k = IsSettled k
+abbrev pub IsSettledBut : Purpose → SearchAddress → Begun → Kept → Type 0
+IsSettledBut Visiting n start k = (x : Assignment) → Has k.reserved x → IsSettledIn start k x ⊎ (x.1 ≡ value_of n)
+IsSettledBut p n start k = Settles start k
 
 -- a hunt that found no gear yet began since some gear was heard
 abbrev pub IsCalledFor : Purpose → Ascent → List Gear → Type 0
@@ -156,17 +160,22 @@ RiseStage true (stage.Hunted r (Some h) left) x n q gs = (r ≡ n) × (left ≡ 
 RiseStage false (stage.Hunted r (Some h) left) x n q gs = left ≡ bytes_to_send n r + 1 + room_left q (asked_next x)
 RiseStage told _ x n q gs = ⊥
 
-pub record Rises (told : Bool) (s : Stage) (x : Ascent) (n : SearchAddress) (gs : List Gear) (left : ℕ) : Type 0 where
-  pub before : Asking
+-- what is known of the ascent, and that so many frames are enough for its questions
+pub record Ascends (x : Ascent) (before : Asking) (gs : List Gear) (budget : ℕ) : Type 0 where
   pub way : IsTrueWay x before
-  pub running : leads_to x ≡ Again
   pub knows : Knows (wants gs) x
-  pub number : n ≡ sought (asked_next x)
   pub ready : IsOpened gs
   pub unnamed : NoneNamed gs
-  pub stage_is : RiseStage told s x n before gs
-  pub budget : ℕ
   pub enough : thirds_for (count_by is_wanted gs) x before ≤ 3 * budget
+
+pub record Rises (told : Bool) (s : Stage) (x : Ascent) (n : SearchAddress) (gs : List Gear) (left : ℕ) : Type 0 where
+  pub before : Asking
+  pub budget : ℕ
+  pub ascends : Ascends x before gs budget
+  pub open ascends use *
+  pub running : leads_to x ≡ Again
+  pub number : n ≡ sought (asked_next x)
+  pub stage_is : RiseStage told s x n before gs
   pub afford : frames_to_ask before (asked_next x) ≤ budget
   pub frames : budget + after_rise (count_by is_wanted gs) + pending told s n ≤ left + frames_to_ask before (asked_next x)
 
@@ -210,7 +219,7 @@ pub record Hunts (told : Bool) (p : Purpose) (s : Stage) (k : Kept) (heard : Sho
   pub hunted : IsHunted c gs
   pub called : IsCalledFor p c.ascent gs
   pub clear : IsClear k heard
-  pub settled : IsSettled start.kept → IsSettledBut p c.number k
+  pub settled : IsSettledBut p c.number start k
   pub rest : ℕ
   pub at : HuntAt told p s k c.ascent c.number (those_drawn gs) rest
   pub tabled : AreTabled (unseen start.gear) (to_come s c.number k.enrolled) (those_drawn gs)
@@ -222,8 +231,7 @@ pub record Hunts (told : Bool) (p : Purpose) (s : Stage) (k : Kept) (heard : Sho
 
 -- what an end says, by records and marks; if the block is full, some gear is left without address
 abbrev pub AreTaken : Kept → Shorts → Type 0
-AreTaken k heard =
-    (a : ℕ) → InBlock k.block a → HasAddress k.reserved a ⊎ (HasAddress k.enrolled a ⊎ (has_short heard a ≡ true))
+AreTaken k heard = (a : ℕ) → InBlock k.block a → HasAddress k.reserved a ⊎ (HasAddress k.enrolled a ⊎ (has_short heard a ≡ true))
 
 abbrev pub SurveyEnds : End → Kept → Shorts → List Gear → Type 0
 SurveyEnds AllFound k heard gs = OfPowered gs HasShort
@@ -233,7 +241,7 @@ SurveyEnds GaveUp k heard gs = ⊥
 pub record SurveyCloses (e : End) (s : Stage) (k : Kept) (heard : Shorts) (start : Begun) (gs : List Gear) (left : ℕ) : Type 0 where
   pub stage_is : CloseStage s
   pub well : SurveyEnds e k heard gs
-  pub settled : IsSettled start.kept → IsSettled k
+  pub settled : Settles start k
   pub tabled : AreTabled (unseen start.gear) k.enrolled gs
   pub frames : 1 ≤ left + sent_at s
 

@@ -4,15 +4,14 @@ use Rattle.dali_progress.proofs.Below.{assigned, finding_of, Has, stage_of, find
 use Rattle.dali_progress.proofs.Below.{Stage, has_last, has_before, Course, call_turn, calling, closing, hunting_first, is_yes, turn_of, Machine, next_course}
 use Rattle.dali_progress.proofs.Below.{begins_at, beginning, asked_once, called_to, compared_in, blocked, is_blocked, machine_ordered, asked_by, Contradicts}
 use Rattle.dali_progress.proofs.Below.{AfterFinding, IsSought, none_passed, is_some_passed, heard_call, silent_call, IsWhole, Asking, Calling, Tally, IsGivenBy}
-use Rattle.dali_progress.proofs.Below.{IsNoEnrolment, gear_of, is_wanted, is_bare, IsOpened, NoneNamed}
+use Rattle.dali_progress.proofs.{Below.{IsNoEnrolment, gear_of, is_wanted, is_bare, IsOpened, NoneNamed}, Survey.Begins.{first_by, begins_whole, asks_on}}
+use Rattle.dali_progress.proofs.Survey.{Begins.{hunts_first, roll_some, roll_none, GoesTo}, Drawn.{those_drawn, is_lost, AreNumbered, bare_split, woken_opened}}
+use Rattle.dali_progress.proofs.Survey.{Drawn.{woken_none_named, tabled_drawn}, Queried.{Holds, OneShort, IsTrue, unseen, below_next, IsAtHand, one_gear}}
+use Rattle.dali_progress.proofs.Survey.Stands.{Begun, survey_frames, silent_left, Counts, IsUncalled, Calls, hunted_after, SurveyAt, SurveyStands}
+use Rattle.dali_progress.proofs.{Survey.Woken.all_short, Surveying.{IsCalledBy, roll_first, roll_over}, Later.asked_none}
 use Rattle.dali_script.specs.declared.stage.Stage.TheVariants as stage
 use Rattle.dali_controller.proofs.Given as given
 use Rattle.dali_events.proofs.Search.Wanted as wanted
-use Rattle.dali_progress.proofs.Survey.Begins.{first_by, begins_whole, asked_none, asks_on, hunts_first, roll_some, roll_none, GoesTo}
-use Rattle.dali_progress.proofs.Survey.Drawn.{those_drawn, is_lost, AreNumbered, bare_split, woken_opened, woken_none_named, tabled_drawn}
-use Rattle.dali_progress.proofs.{Survey.Queried.{Holds, OneShort, IsTrue, unseen, below_next, IsAtHand, one_gear}, Survey.Stands.{Begun, survey_frames}}
-use Rattle.dali_progress.proofs.{Survey.Stands.{silent_left, Counts, IsUncalled, Calls, hunted_after, SurveyAt, SurveyStands}, Survey.Woken.all_short}
-use Rattle.dali_progress.proofs.Surveying.{IsCalledBy, roll_first, roll_over}
 
 -- A CONTROLLER THAT SURVEYS ACTS on what it was told, and what it orders goes on with the survey.
 
@@ -123,8 +122,7 @@ told_turns start t o a b n gs left g st purpose is uncalled v hand agrees = go (
   follows : (q : Order) → IsGivenBy t q → n < MASK24 → AfterFinding t b n q → GoesTo start t q gs left
   follows (Put p f) g small has =
       goes (Put p f) (given.spelled_known t (Put p f) b n g is (sought small) hand.kept.enrolled has)
-      (λ i told. inr (subst (λ c. Has t.kept.enrolled (c, (gear_of gs i).random)) v.ask.asked.0
-      (subst (λ r. Has t.kept.enrolled (b, r)) (told_by i told) has)))
+      (λ i told. inr (subst (λ c. Has t.kept.enrolled (c, (gear_of gs i).random)) v.ask.asked.0 (subst (λ r. Has t.kept.enrolled (b, r)) (told_by i told) has)))
   follows (Commit x) g small same =
       subst (λ y. GoesTo start t (Commit y) gs left) (sym same) (subst (λ c. GoesTo start t (Commit (Enrol c n)) gs left) (sym v.ask.asked.0) enrols)
   follows (Done e) g small never = absurd never
@@ -155,8 +153,7 @@ census_turns start t o a _ gs left g st last purpose is running uncalled v hand 
 
 called_next : (t : Machine) (r : SearchAddress) (h : Answer) (room : ℕ) (b : Bool) → stage_of t.trace ≡ stage.Hunted r (Some h) room
     → t.course.purpose ≡ Calling → is_yes h ≡ b → next_course t ≡ called_to t b t.course
-called_next t r h room b is purpose said =
-    ap (begins_at t) is ∙ ap (λ p. compared_in t p h) purpose ∙ ap (λ y. called_to t y t.course) said
+called_next t r h room b is purpose said = ap (begins_at t) is ∙ ap (λ p. compared_in t p h) purpose ∙ ap (λ y. called_to t y t.course) said
 
 pub silent_next : (t : Machine) (r : SearchAddress) (h : Answer) (room : ℕ) (b : Bool) → stage_of t.trace ≡ stage.Hunted r (Some h) room
     → t.course.purpose ≡ Calling → is_yes h ≡ false → t.course.tally.is_silent ≡ b
@@ -222,8 +219,7 @@ heard_call_turns : (start : Begun) (t : Machine) (o : Order) (r : SearchAddress)
 heard_call_turns start t o r h room gs left st purpose is v numbered begins said some one =
     hunts_first start t o heard gs left st.calm begins (heard_next t r h room false is purpose said (unblocked t.course.tally st.calm.smooth.passed))
     st.calm.smooth (record { opened_is = v.opened_is; loud = refl; first = v.first; low = v.roll.low }) some v.clear v.settled opened unnamed
-    (tabled_drawn (unseen start.gear) t.kept.enrolled gs v.tabled)
-    (subst (λ n. 106 * n + 10 + hunted_after n (count_by is_lost gs) ≤ left) (sym count)
+    (tabled_drawn (unseen start.gear) t.kept.enrolled gs v.tabled) (subst (λ n. 106 * n + 10 + hunted_after n (count_by is_lost gs) ≤ left) (sym count)
     (enough (count_by is_bare (those_drawn gs)) (hunted_after (count_by is_bare (those_drawn gs)) (count_by is_lost gs))
     room one (subst (λ n. n ≤ left + (8 - room)) (roll_some t.course.tally.is_silent (count_by is_bare (those_drawn gs)) (count_by is_lost gs)
     (subst (λ n. 0 < n) (bare_split gs) some)) v.frames)))

@@ -1,22 +1,21 @@
 use Rattle.dali_progress.proofs.Below.{ℕ, List, [], ◌∷◌, sym, subst, ◌∙◌, true, ◌≡◌, ◌<◌, ◌⊎◌, inl, inr, Bool, false, refl, ap, length, Option, Some, None}
 use Rattle.dali_progress.proofs.Below.{◌==◌, if◌then◌else◌, ◌+◌, ◌≤◌, suc, arith, ◌||◌, bit_at-zero, count_by, Allowed, happens, entry, block_at, Plan, World}
-use Rattle.dali_progress.proofs.Below.{controller_at, Event, gear_of, is_bare, OfPowered, HasShort, same_number, number_same, is_bare_by, bare_is, count_less}
-use Rattle.dali_progress.proofs.Below.{SiteState, world, site_logged, machine_at, records_now, Rounds, IsOfRound, site_after, Succeeds, IsAlone, HasEnded}
-use Rattle.dali_progress.proofs.Below.{BySurvey, IsSettled, IsSettledAt, most_frames, bare, HasVacant, high_of, MASK24, Answer, Silence, Byte, Damaged}
-use Rattle.dali_progress.proofs.Below.{SearchAddress, command_of, Command, RandomByte, High, Middle, Low, Gear, row_after, answers_of, heard_of, Everyone}
-use Rattle.dali_progress.proofs.Below.{frame_put, record_ordered, Kept, Assignment, Has, HasAddress, InBlock, IsOnce, stage_of, next_stage, Block, End}
-use Rattle.dali_progress.proofs.Below.{AllFound, BlockFull, GaveUp, Input, Order, Record, Stage, middle_next, low_next, stage_more, mapped_from, Machine}
-use Rattle.dali_progress.proofs.Below.{machine_heard, machine_told, machine_committed, heard_after, marked_at, at_first, has_short, with_short, without_short}
-use Rattle.dali_progress.proofs.Below.{Purpose, Asking, Shorts, informed_by}
-use Rattle.dali_gear.specs.Gear.{has_short as is_short}
+use Rattle.dali_progress.proofs.Below.{controller_at, Event, gear_of, is_bare, OfPowered, HasShort, same_number, number_same, is_bare_by, bare_is, SiteState}
+use Rattle.dali_progress.proofs.Below.{world, site_logged, machine_at, records_now, Rounds, IsOfRound, site_after, Succeeds, IsAlone, HasEnded, BySurvey}
+use Rattle.dali_progress.proofs.Below.{most_frames, bare, HasVacant, high_of, MASK24, Answer, Silence, Byte, Damaged, SearchAddress, command_of, Command}
+use Rattle.dali_progress.proofs.Below.{RandomByte, High, Middle, Low, Gear, row_after, answers_of, heard_of, Everyone, frame_put, record_ordered, Kept}
+use Rattle.dali_progress.proofs.Below.{Assignment, Has, HasAddress, InBlock, IsOnce, stage_of, next_stage, Block, End, AllFound, BlockFull, GaveUp, Input}
+use Rattle.dali_progress.proofs.Below.{Order, Record, Stage, middle_next, low_next, stage_more, mapped_from, Machine, machine_heard, machine_told}
+use Rattle.dali_progress.proofs.Below.{machine_committed, heard_after, marked_at, at_first, has_short, with_short, without_short, Purpose, Asking, Shorts}
+use Rattle.dali_progress.proofs.{Below.{informed_by, IsSettledOn}, Along.{Runs, runs_on, RunsAll, runs_all}, Gives.{Gives, gives_self, gives_then, frame_gives}}
+use Rattle.dali_progress.proofs.{Gives.bare_before, Logged.{world_logged, same_some, block_now}, Lone.{lone_next, Moment, IsDueOf, acts_by, due_of}}
+use Rattle.dali_progress.proofs.{Lone.ended_rests, Survey.Goes.{of_survey, argument, sends_now, one_now, EndsBy, began_at, starts, ended_by, true_now}}
+use Rattle.dali_progress.proofs.Survey.{Goes.settled_still, Stands.{Begun, Counts, SurveyAt, SurveyEnds, AreTaken}, Queried.{Holds, Nobody, OneGear, one_gear}}
+use Rattle.dali_progress.proofs.{Survey.Drawn.count_first, Stands.{some_is, Sends}, Surveying.{heard_high, with_other, without_same, without_other}}
+use Rattle.{dali_progress.proofs.{Beginnings.runs_after, Later.some_same, Survey.Woken.count_there}, dali_gear.specs.Gear.has_short as is_short}
 use Rattle.dali_events.specs.declared.event.Event.TheVariants as event
 use Rattle.dali_script.specs.declared.stage.Stage.TheVariants as stage
 use Rattle.dali_progress.proofs.Drawing as staying
-use Rattle.dali_progress.proofs.{Along.{Runs, runs_on, RunsAll, runs_all}, Gives.{Gives, gives_self, gives_then, frame_gives, bare_before}, Logged.world_logged}
-use Rattle.dali_progress.proofs.{Logged.{same_some, block_now}, Lone.{lone_next, Moment, IsDueOf, acts_by, due_of, ended_rests}, Survey.Goes.of_survey}
-use Rattle.dali_progress.proofs.{Survey.Goes.{argument, sends_now, one_now, EndsBy, began_at, starts, ended_by, true_now}, Survey.Stands.{Begun, Counts}}
-use Rattle.dali_progress.proofs.{Survey.Stands.{SurveyAt, SurveyEnds, AreTaken}, Survey.Queried.{Holds, Nobody, OneGear, one_gear}, Survey.Drawn.count_first}
-use Rattle.dali_progress.proofs.{Stands.{some_is, Sends}, Surveying.{heard_high, with_other, without_same, without_other}, Beginnings.runs_after}
 
 -- WHO IS GIVEN A SHORT ADDRESS in a whole survey of one controller alone.
 
@@ -56,15 +55,13 @@ with_held : (heard : Shorts) (gs : List Gear) (b : ℕ) → b < 64 → IsHeld gs
 with_held heard gs b within held all a small has = go (a == b) refl where
   go : (t : Bool) → (a == b) ≡ t → IsHeld gs a
   go true is = subst (IsHeld gs) (sym (same_number a b is)) held
-  go false is =
-      all a small (sym (with_other heard b a within (λ e. (let both : true ≡ false = sym (number_same a b e) ∙ is in cc))) ∙ has)
+  go false is = all a small (sym (with_other heard b a within (λ e. (let both : true ≡ false = sym (number_same a b e) ∙ is in cc))) ∙ has)
 
 without_held : (heard : Shorts) (gs : List Gear) (b : ℕ) → b < 64 → AreHeld heard gs → AreHeld (without_short heard b) gs
 without_held heard gs b within all a small has = go (a == b) refl where
   go : (t : Bool) → (a == b) ≡ t → IsHeld gs a
   go true is = absurd (let both : true ≡ false = sym has ∙ without_same heard b a within (same_number a b is) in cc)
-  go false is =
-      all a small (sym (without_other heard b a within small (λ e. (let both : true ≡ false = sym (number_same a b e) ∙ is in cc))) ∙ has)
+  go false is = all a small (sym (without_other heard b a within small (λ e. (let both : true ≡ false = sym (number_same a b e) ∙ is in cc))) ∙ has)
 
 -- what is to be known of an answer, for what it marks
 abbrev Marks : Stage → Answer → List Gear → Type 0
@@ -97,8 +94,7 @@ asked_marks a stage.Free k marks asked from n start gs left c h v is one heard =
   where
     go : ((g : ℕ) × Holds gs g a × (h ≡ Byte (high_of (gear_of gs g).random))) ⊎ (Nobody gs a × (h ≡ Silence))
         → Marks (next_stage stage.Free (RandomByte a High) h) h gs
-    go (inl (g, holds, byte)) =
-        subst (λ b. Marks (next_stage stage.Free (RandomByte a High) b) b gs) (sym byte) (v.ask.small, (g, holds.there, holds.short))
+    go (inl (g, holds, byte)) = subst (λ b. Marks (next_stage stage.Free (RandomByte a High) b) b gs) (sym byte) (v.ask.small, (g, holds.there, holds.short))
     go (inr (none, silent)) = subst (λ b. Marks (next_stage stage.Free (RandomByte a High) b) b gs) (sym silent) tt
 asked_marks a (stage.HighAsked b (Some u)) k marks asked from n start gs left c h v is one heard =
     let tells = v.ask.asked.1 in
@@ -161,8 +157,7 @@ held_stays start = record {
 -- nothing is marked at the start
 none_marked : (s : SiteState) (c : ℕ) → IsAlone s c → staying.StaysAt HeldBy s c
 none_marked s c alone m there =
-    subst (λ t. AreHeld (informed_by m t).heard (world s).gear) (sym alone.told)
-    (subst (λ (n : Machine). AreHeld n.heard (world s).gear)
+    subst (λ t. AreHeld (informed_by m t).heard (world s).gear) (sym alone.told) (subst (λ (n : Machine). AreHeld n.heard (world s).gear)
     (same_some (machine_at s c) (at_first c (controller_at (world s) c).records) m alone.machine there)
     (λ a small has. absurd (let both : true ≡ false = sym has ∙ ap (λ n. n == 1) (bit_at-zero a) in cc)))
 
@@ -206,10 +201,6 @@ two_counts p q r (g ∷ gs) (h ∷ hs) e first second never =
     (two_counts p q r gs hs (omega arith) (λ k there. first (suc k) (omega (arith, there))) (λ k there. second (suc k) (omega (arith, there)))
     (λ k there. never (suc k) (omega (arith, there)))))
 
-some_counted : (p : Gear → Bool) (gs : List Gear) (k : ℕ) → k < length gs → p (gear_of gs k) ≡ true → 0 < count_by p gs
-some_counted p gs k there is =
-    let less = count_less p (λ g. false) gs gs k refl (λ i h never. absurd (cc)) there is refl in omega (arith, less)
-
 -- ---------------------------------------------------------------- gear that have an address of a list
 
 abbrev has_one : List ℕ → Gear → Bool
@@ -244,7 +235,7 @@ all_counted : (xs : List ℕ) (gs : List Gear) → IsOnce xs → ((a : ℕ) → 
 all_counted [] gs once held = omega arith
 all_counted (x ∷ xs) gs once held =
     let here : IsHeld gs x = held x (inl refl) in
-    let one = some_counted (λ g. is_short x g.short) gs here.0 here.1 (it_is x (gear_of gs here.0).short here.2) in
+    let one = count_there (λ g. is_short x g.short) gs here.0 here.1 (it_is x (gear_of gs here.0).short here.2) in
     let rest = all_counted xs gs once.1 (λ a has. held a (inr has)) in
     let both =
     two_counts (λ g. is_short x g.short) (has_one xs) (has_one (x ∷ xs)) gs gs refl
@@ -255,11 +246,8 @@ all_counted (x ∷ xs) gs once held =
     apart : (g : Gear) → is_short x g.short ≡ true → has_one xs g ≡ true → ⊥
     apart g is other =
         let had = one_had xs g other in
-        let same : had.0 ≡ x = one had.0 x (sym had.2 ∙ is_it x g.short is) in
+        let same : had.0 ≡ x = some_same had.0 x (sym had.2 ∙ is_it x g.short is) in
         once.0 (subst (Has xs) same had.1)
-      where
-        one : (a b : ℕ) → Some a ≡ Some b → a ≡ b
-        one a b e = cc
 
 -- ---------------------------------------------------------------- who is left
 
@@ -288,11 +276,12 @@ fewer_left b gs hs xs gives once vacant held =
 -- ---------------------------------------------------------------- the block is never full
 
 -- an address that is taken some gear has
-taken_held : (m : Machine) (gs : List Gear) (a : ℕ) → a < 64 → IsSettled m.kept → ((b r : ℕ) → Has m.kept.enrolled (b, r) → IsHeld gs b) → AreHeld m.heard gs
+taken_held : (m : Machine) (gs : List Gear) (a : ℕ) → a < 64 → ((r : ℕ) → Has m.kept.reserved (a, r) → Has m.kept.enrolled (a, r))
+    → ((b r : ℕ) → Has m.kept.enrolled (b, r) → IsHeld gs b) → AreHeld m.heard gs
     → HasAddress m.kept.reserved a ⊎ (HasAddress m.kept.enrolled a ⊎ (has_short m.heard a ≡ true)) → IsHeld gs a
 taken_held m gs a small settled entries marks (inl reserved) =
     let x = mapped_from (λ (p : Assignment). p.0) m.kept.reserved a reserved in
-    subst (IsHeld gs) x.2 (entries x.0.0 x.0.1 (settled x.0 x.1))
+    entries a x.0.1 (settled x.0.1 (subst (λ b. Has m.kept.reserved (b, x.0.1)) x.2 x.1))
 taken_held m gs a small settled entries marks (inr (inl enrolled)) =
     let x = mapped_from (λ (p : Assignment). p.0) m.kept.enrolled a enrolled in
     subst (IsHeld gs) x.2 (entries x.0.0 x.0.1 x.1)
@@ -329,17 +318,17 @@ pub planned : (P : Plan → Type 0) (es : List Event) (s : SiteState) → P s.pl
 planned P [] s has = has
 planned P (e ∷ es) s has = planned P es (site_logged s e) has
 
--- it ends with all-found, or gear have each address of the block and some gear is left
-pub full_held : (s : SiteState) (c : ℕ) (es : List Event) (e : End) → IsAlone s c → IsSettledAt s c → Rounds true s c es → HasEnded (site_after s es) c e
-    → ((e ≡ AllFound) × OfPowered (world (site_after s es)).gear HasShort)
-    ⊎ ((0 < count_by is_bare (world (site_after s es)).gear)
-    × ((a : ℕ) → InBlock (block_at s.plan c) a → IsHeld (world (site_after s es)).gear a))
-full_held s c es e alone settled rounds ended =
+-- it ends with all-found, or some gear is left, and gear have each address of the block that was not reserved but as it was enrolled
+pub full_held : (s : SiteState) (c : ℕ) (es : List Event) (e : End) → IsAlone s c → Rounds true s c es → HasEnded (site_after s es) c e
+    → ((e ≡ AllFound) × OfPowered (world (site_after s es)).gear HasShort) ⊎ ((0 < count_by is_bare (world (site_after s es)).gear)
+    × ((a : ℕ) → InBlock (block_at s.plan c) a → IsSettledOn s c a → IsHeld (world (site_after s es)).gear a))
+full_held s c es e alone rounds ended =
     elim (ended_so e now.by.machine.kept now.by.machine.heard hs now.by.well) [
       | inl all ↦ inl all
       | inr full ↦ inr (
         full.0,
-        λ a has. taken_held now.by.machine hs a (block_now t c now.by.run now.by.up a (within a has)) (now.by.settled settled) entries
+        λ a has settled. taken_held now.by.machine hs a (block_now t c now.by.run now.by.up a (within a has))
+            (λ r reserved. settled_still (began_at s c) now.by.machine.kept (a, r) (settled r) (now.by.settled (a, r) reserved)) entries
             now.marks (full.1 a (subst (λ (k : Kept). InBlock k.block a) (sym now.by.kept) (within a has))),
       )
     ]
@@ -359,22 +348,21 @@ full_held s c es e alone settled rounds ended =
         (planned (λ p. InBlock (block_at p c) a) es s has)
 
     entries : (b r : ℕ) → Has now.by.machine.kept.enrolled (b, r) → IsHeld hs b
-    entries b r has =
-        let at = true_now t c now.by.run now.by.up b r (subst (λ (k : Kept). Has k.enrolled (b, r)) now.by.kept has) in (at.0, at.1, at.2)
+    entries b r has = let at = true_now t c now.by.run now.by.up b r (subst (λ (k : Kept). Has k.enrolled (b, r)) now.by.kept has) in (at.0, at.1, at.2)
 
 -- WITH ADDRESSES ENOUGH all gear get one
-pub enough_found : (s : SiteState) (c : ℕ) (es : List Event) (e : End) → IsAlone s c → IsSettledAt s c → HasVacant s c → Rounds true s c es
+pub enough_found : (s : SiteState) (c : ℕ) (es : List Event) (e : End) → IsAlone s c → HasVacant s c → Rounds true s c es
     → HasEnded (site_after s es) c e → (e ≡ AllFound) × OfPowered (world (site_after s es)).gear HasShort
-enough_found s c es e alone settled vacant rounds ended =
-    elim (full_held s c es e alone settled rounds ended) [ inl all ↦ all | inr full ↦ absurd (never full.0 full.1) ] where
+enough_found s c es e alone vacant rounds ended =
+    elim (full_held s c es e alone rounds ended) [ inl all ↦ all | inr full ↦ absurd (never full.0 full.1) ] where
       hs : List Gear
       hs = (world (site_after s es)).gear
 
-      never : 0 < count_by is_bare hs → ((a : ℕ) → InBlock (block_at s.plan c) a → IsHeld hs a) → ⊥
+      never : 0 < count_by is_bare hs → ((a : ℕ) → InBlock (block_at s.plan c) a → IsSettledOn s c a → IsHeld hs a) → ⊥
       never some held =
           let fewer =
           fewer_left (block_at s.plan c) (world s).gear hs vacant.addresses (over s c es e alone rounds ended).gives vacant.once
-          (λ a has k there short. vacant.vacant a has k (there, short)) (λ a has. held a (vacant.within a has)) in
+          (λ a has k there short. vacant.vacant a has k (there, short)) (λ a has. held a (vacant.within a has) (vacant.settled a has)) in
           none (count_by is_bare hs) (length vacant.addresses) (bare s) some fewer vacant.enough
         where
           none : (left n was : ℕ) → 0 < left → left + n ≤ was → was ≤ n → ⊥

@@ -7,18 +7,17 @@ use Rattle.dali_progress.proofs.Below.{closing as closing_by, turn_of, Machine, 
 use Rattle.dali_progress.proofs.Below.{course_by, may_draw, full, ungiven, machine_ordered, AfterEnrolled, AfterFinding, AfterMaskOn, AfterMaskBy}
 use Rattle.dali_progress.proofs.Below.{AfterReserved, IsWhole, Purpose, Opening, Probing, Hunting, Visiting, Resolving, Closing, Calling, Drawing, PassingOver}
 use Rattle.dali_progress.proofs.Below.{Asking as Counting, Way, Fresh, Surveying, IsGivenBy, IsNoEnrolment, frame_of, Command, Program, is_wanted, wants}
-use Rattle.dali_progress.proofs.Below.{is_bare, IsSettled, AreTabled}
+use Rattle.dali_progress.proofs.{Below.{is_bare, AreTabled}, Both.{never_eight, entry_last, with_kept, no_enrolment_now, visits_first, frames_reserved}}
+use Rattle.dali_progress.proofs.{Both.{reserved_begins, enrolled_begins, drawn_number, close_ends, entry_twice}, Frames.value_sought, Stands.search_frames}
+use Rattle.dali_progress.proofs.{Stands.{VisitFrames, Visits, Leaves}, Survey.Stands.{Calm, Begun, survey_frames, called_after, Hunts, SurveyAt, SurveyStands}}
+use Rattle.dali_progress.proofs.Survey.{Stands.{Draws, Settles, IsSettledIn}, Begins.{EnrolsCounted, ReleasesCounted, EnrolsHunted, ReservesHunted}}
+use Rattle.dali_progress.proofs.Survey.Begins.{SurveyCommits, first_by, asks_on, hunts_on, clear_reserved, Above, later_by, turns_by, all_taken, nobody_elses}
+use Rattle.dali_progress.proofs.Survey.{Begins.GoesTo, Drawn.{those_drawn, is_lost, bare_split, drawn_tabled}, Queried.{OneShort, IsTrue, unseen, IsAtHand}}
+use Rattle.dali_progress.proofs.Survey.{Hunting.{never_full, hunting_turns, drawn_turns}, Turns.{IsUncontradicted, found_at, census_turns, calling_turns}}
+use Rattle.dali_progress.proofs.{Tables.tabled_over, Accounted.open_is, Surveying.draw_over, Later.asked_none}
 use Rattle.dali_script.specs.declared.stage.Stage.TheVariants as stage
 use Rattle.dali_controller.proofs.Given as given
 use Rattle.dali_events.proofs.Search.Wanted as wanted
-use Rattle.dali_progress.proofs.Both.{never_eight, entry_last, with_kept, no_enrolment_now, visits_first, frames_reserved, reserved_begins, enrolled_begins}
-use Rattle.dali_progress.proofs.{Both.{drawn_number, close_ends, entry_twice}, Frames.value_sought, Stands.{search_frames, VisitFrames, Visits, Leaves}}
-use Rattle.dali_progress.proofs.{Survey.Stands.{Calm, Begun, survey_frames, called_after, Hunts, SurveyAt, SurveyStands, Draws}, Survey.Begins.EnrolsCounted}
-use Rattle.dali_progress.proofs.Survey.Begins.{ReleasesCounted, EnrolsHunted, ReservesHunted, SurveyCommits, first_by, asked_none, asks_on, hunts_on}
-use Rattle.dali_progress.proofs.{Survey.Begins.{clear_reserved, Above, later_by, turns_by, all_taken, nobody_elses, GoesTo}, Survey.Drawn.those_drawn}
-use Rattle.dali_progress.proofs.{Survey.Drawn.{is_lost, bare_split, drawn_tabled}, Survey.Queried.{OneShort, IsTrue, unseen, IsAtHand}}
-use Rattle.dali_progress.proofs.{Survey.Hunting.{never_full, hunting_turns, drawn_turns}, Survey.Turns.{IsUncontradicted, found_at, census_turns}}
-use Rattle.dali_progress.proofs.{Survey.Turns.calling_turns, Tables.tabled_over, Accounted.open_is, Surveying.draw_over}
 
 -- A RECORD OF A SURVEY IS KEPT, and the next transaction begins.
 
@@ -52,6 +51,10 @@ rest_next m x free last =
     let at : stage_of m.trace ≡ stage.Free = ap stage_of free ∙ stage_none in
     ap (begins_at (with_kept m x)) at ∙ ap (at_rest (with_kept m x)) last
 
+settled_more : (start : Begun) (k : Kept) (a r : ℕ) (x : Assignment) → IsSettledIn start k x → IsSettledIn start (with_record k (Enrol a r)) x
+settled_more start k a r x (inl entry) = inl (has_before k.enrolled (a, r) x entry)
+settled_more start k a r x (inr was) = inr (was.0, λ e. has_before k.enrolled (a, r) x (was.1 e))
+
 -- it is enrolled: what else is reserved for it is released, or the next short address is asked
 counted_next : (start : Begun) (m : Machine) (a r : ℕ) (o : Order) (gs : List Gear) (left : ℕ) → Calm m → EnrolsCounted start m a r gs left → m.trace ≡ []
     → m.last ≡ Some (Commit (Enrol a r)) → IsGivenBy (with_kept m (Enrol a r)) o → OneShort gs → IsTrue (m.kept.enrolled ++ (a, r) ∷ []) gs
@@ -61,7 +64,7 @@ counted_next start m a r o gs left calm v free last g one holds = go o g (g.foll
   goes q g own =
       asks_on start (with_kept m (Enrol a r)) q (a + 1) gs left calm (given.enrolled (with_kept m (Enrol a r)) q a r g last free own)
       (rest_next m (Enrol a r) free last) v.uncalled v.asked v.from_is (let small : a < 64 = v.small in omega (arith, small))
-      (λ e x has. has_before m.kept.enrolled (a, r) x (v.settled e x has)) v.clear one holds v.same
+      (λ x has. settled_more start m.kept a r x (v.settled x has)) v.clear one holds v.same
       v.tabled (counted_count a (survey_frames gs) left v.small v.frames)
 
   go : (q : Order) → IsGivenBy (with_kept m (Enrol a r)) q → AfterEnrolled (with_kept m (Enrol a r)) a r q
@@ -78,7 +81,7 @@ counted_next start m a r o gs left calm v free last g one holds = go o g (g.foll
               asked = asked_none m.course.opened m.asked v.asked;
               small = v.small;
               from_is = v.from_is;
-              settled = λ e x has. has_before m.kept.enrolled (a, r) x (v.settled e x has);
+              settled = λ x has. settled_more start m.kept a r x (v.settled x has);
               clear = v.clear;
               same = v.same;
               tabled = v.tabled;
@@ -103,7 +106,7 @@ released_next : (start : Begun) (m : Machine) (c r a : ℕ) (o : Order) (gs : Li
 released_next start m c r a o gs left calm v free last g one holds =
     asks_on start (with_kept m (Release c r)) o (a + 1) gs left calm (released_begins m c r o calm free last g)
     (rest_next m (Release c r) free last) v.uncalled v.asked v.from_is (let small : a < 64 = v.small in omega (arith, small))
-    (λ e x has. v.settled e x (without_has (c, r) m.kept.reserved x has))
+    (λ x has. v.settled x (without_has (c, r) m.kept.reserved x has))
     (λ d q has. v.clear d q (without_has (c, r) m.kept.reserved (d, q) has)) one holds v.same v.tabled
     (counted_count a (survey_frames gs) left v.small v.frames)
 
@@ -114,17 +117,17 @@ hunted_next : (start : Begun) (m : Machine) (b r : ℕ) (o : Order) (gs : List G
 hunted_next start m b r o gs left calm v free last map g =
     hunts_on start (with_kept m (Enrol b r)) o r gs left
     calm (enrolled_begins m b r o v.reserved free last map g) (rest_next m (Enrol b r) free last) v.hunted
-    v.clear (λ e x has. settled x has (v.settled e x has))
+    v.clear (λ x has. settled x has (v.settled x has))
     v.above v.ready v.unnamed (tabled_over (unseen start.gear) ((b, r) ∷ m.kept.enrolled) (m.kept.enrolled ++ (b, r) ∷ []) (those_drawn gs)
     (entry_last m.kept.enrolled (b, r))
     v.tabled)
     v.frames
   where
-    settled : (x : Assignment) → Has m.kept.reserved x → Has m.kept.enrolled x ⊎ (x.1 ≡ r) → Has (m.kept.enrolled ++ (b, r) ∷ []) x
-    settled x has (inl entry) = has_before m.kept.enrolled (b, r) x entry
+    settled : (x : Assignment) → Has m.kept.reserved x → IsSettledIn start m.kept x ⊎ (x.1 ≡ r) → IsSettledIn start (with_record m.kept (Enrol b r)) x
+    settled x has (inl was) = settled_more start m.kept b r x was
     settled x has (inr number) =
-        subst (Has (m.kept.enrolled ++ (b, r) ∷ [])) (sym
-        (same_member (λ (q : Assignment). q.1) m.kept.reserved x (b, r) map.random_once has v.reserved number)) (has_last m.kept.enrolled (b, r))
+        inl (subst (Has (m.kept.enrolled ++ (b, r) ∷ [])) (sym
+        (same_member (λ (q : Assignment). q.1) m.kept.reserved x (b, r) map.random_once has v.reserved number)) (has_last m.kept.enrolled (b, r)))
 
 reserved_next : (start : Begun) (m : Machine) (a r : ℕ) (o : Order) (gs : List Gear) (left : ℕ) → Calm m → ReservesHunted start m a r gs left → m.trace ≡ []
     → m.last ≡ Some (Commit (Reserve a r)) → IsGivenBy (with_kept m (Reserve a r)) o → GoesTo start (with_kept m (Reserve a r)) o gs left
@@ -135,7 +138,7 @@ reserved_next start m a r o gs left calm v free last g =
       hunted = v.hunted;
       called = tt;
       clear = clear_reserved m.kept m.heard a r v.clear v.open_is;
-      settled = λ e x has. settled e x (has_cases m.kept.reserved (a, r) x has);
+      settled = λ x has. settled x (has_cases m.kept.reserved (a, r) x has);
       rest = 7 + search_frames v.more;
       at = (
         visits_first (with_record m.kept (Reserve a r)) r v.more (those_drawn gs) (7 + search_frames v.more) v.ready v.unnamed v.wanted v.drawn v.count
@@ -151,16 +154,15 @@ reserved_next start m a r o gs left calm v free last g =
     count : (more after : ℕ) → 39 + 106 * more + after ≤ left → 7 + search_frames more + 27 + after ≤ left + 5 * more
     count more after enough = omega (arith, enough)
 
-    settled : IsSettled start.kept → (x : Assignment) → Has m.kept.reserved x ⊎ ((a, r) ≡ x) → Has m.kept.enrolled x ⊎ (x.1 ≡ value_of (sought r))
-    settled e x (inl has) = inl (v.settled e x has)
-    settled e x (inr same) = inr (sym (ap (λ (q : Assignment). q.1) same) ∙ sym (value_sought r))
+    settled : (x : Assignment) → Has m.kept.reserved x ⊎ ((a, r) ≡ x) → IsSettledIn start m.kept x ⊎ (x.1 ≡ value_of (sought r))
+    settled x (inl has) = inl (v.settled x has)
+    settled x (inr same) = inr (sym (ap (λ (q : Assignment). q.1) same) ∙ sym (value_sought r))
 
 -- ---------------------------------------------------------------- of whichever
 
 -- what is to come of its order, and that events before the next frame are one less
 abbrev KeptTo : Begun → Machine → Record → Order → List Gear → ℕ → Type 0
-KeptTo start m x o gs left =
-    GoesTo start (with_kept m x) o gs left × (survey_slack (Some o) None + 1 ≤ survey_slack (Some (Commit x)) None)
+KeptTo start m x o gs left = GoesTo start (with_kept m x) o gs left × (survey_slack (Some o) None + 1 ≤ survey_slack (Some (Commit x)) None)
 
 pub begins_less : (o : Order) (t : Machine) (n : ℕ) → o ≡ beginning (next_course t) → 1 ≤ n → survey_slack (Some o) None + 1 ≤ n
 begins_less o t n is one = let none : survey_slack (Some o) None ≡ 0 = rw is refl in omega (arith, none, one)
@@ -204,8 +206,7 @@ withheld_anothers t Surveying a r withheld = (wanted.both_pass t.course.opened (
 
 pub ungiven_next : (t : Machine) (r : SearchAddress) (b : Bool) → stage_of t.trace ≡ stage.Unnamed r → t.course.way ≡ Surveying → may_draw t ≡ b
     → next_course t ≡ (if b then opening_anew t.course else full t t.course)
-ungiven_next t r b is way may =
-    ap (begins_at t) is ∙ ap (ungiven t) way ∙ ap (λ y. if y then opening_anew t.course else full t t.course) may
+ungiven_next t r b is way may = ap (begins_at t) is ∙ ap (ungiven t) way ∙ ap (λ y. if y then opening_anew t.course else full t t.course) may
 
 -- a gear that is visited has no address yet
 visited_bare : (r : SearchAddress) (k : Kept) (n : SearchAddress) (gs : List Gear) (rest : ℕ) → Visits (stage.Unnamed r) k n (those_drawn gs) rest
@@ -241,12 +242,11 @@ unnamed_turns start t o r gs left g st hand purpose is v =
       some (inr e) = omega (arith, e)
 
       -- nothing is reserved for the number, so all that is reserved is enrolled
-      settled : (HasRandom t.kept.reserved (value_of r) → ⊥) → IsSettled start.kept → IsSettled t.kept
-      settled none e x has = by (v.settled e x has) where
-        by : Has t.kept.enrolled x ⊎ (x.1 ≡ value_of t.course.number) → Has t.kept.enrolled x
-        by (inl enrolled) = enrolled
-        by (inr number) =
-            absurd (none (subst (HasRandom t.kept.reserved) (number ∙ sym same) (has_map (λ (q : Assignment). q.1) t.kept.reserved x has)))
+      settled : (HasRandom t.kept.reserved (value_of r) → ⊥) → Settles start t.kept
+      settled none x has = by (v.settled x has) where
+        by : IsSettledIn start t.kept x ⊎ (x.1 ≡ value_of t.course.number) → IsSettledIn start t.kept x
+        by (inl was) = was
+        by (inr number) = absurd (none (subst (HasRandom t.kept.reserved) (number ∙ sym same) (has_map (λ (q : Assignment). q.1) t.kept.reserved x has)))
 
       reserves : (a : ℕ) → is_open t.kept t.heard a ≡ true → (HasRandom t.kept.reserved (value_of r) → ⊥)
           → GoesTo start t (Commit (Reserve a (value_of r))) gs left
@@ -278,8 +278,7 @@ unnamed_turns start t o r gs left g st hand purpose is v =
           → (free : Option ℕ) → least_open t.kept t.heard ≡ free → AfterMaskBy t r given_to free o → GoesTo start t o gs left
       go (Some a) has free least mask = by (is_withheld t a (value_of r)) refl where
         by : (b : Bool) → is_withheld t a (value_of r) ≡ b → GoesTo start t o gs left
-        by false free =
-            later_by start t o (stage.Unnamed r) (frame_of (Program (Some a))) gs left st (subst (λ b. AfterReserved t a b o) free mask) is tt
+        by false free = later_by start t o (stage.Unnamed r) (frame_of (Program (Some a))) gs left st (subst (λ b. AfterReserved t a b o) free mask) is tt
         by true withheld =
             absurd (let never : true ≡ false = sym (withheld_anothers t t.course.way a (value_of r) withheld)
             ∙ nobody_elses t.kept t.heard gs hand.holds hand.owned v.clear a (value_of r) has in cc)
@@ -322,11 +321,9 @@ withdrawn_turns start t o r a gs left g st kept purpose is v agreed = go o g (g.
 
   -- the frames that are left for the search that goes on
   ends : 106 * count_by is_wanted (those_drawn gs) + 32 + called_after (count_by is_lost gs) ≤ left
-  ends = go (count_by is_wanted (those_drawn gs)) ((called_after (count_by is_lost gs)))
-      v.behind v.behind_is.0 v.behind_is.1 v.frames where
-        go : (count after behind : ℕ) → count ≤ behind → search_frames behind ≤ v.rest → v.rest + 27 + after ≤ left + 5 * behind
-            → 106 * count + 32 + after ≤ left
-        go count after behind few enough all = omega (arith, few, enough, all)
+  ends = go (count_by is_wanted (those_drawn gs)) ((called_after (count_by is_lost gs))) v.behind v.behind_is.0 v.behind_is.1 v.frames where
+    go : (count after behind : ℕ) → count ≤ behind → search_frames behind ≤ v.rest → v.rest + 27 + after ≤ left + 5 * behind → 106 * count + 32 + after ≤ left
+    go count after behind few enough all = omega (arith, few, enough, all)
 
   -- and who is left is above it
   up : Above t.course.ascent (value_of r) (those_drawn gs)
@@ -338,20 +335,19 @@ withdrawn_turns start t o r a gs left g st kept purpose is v agreed = go o g (g.
   }
 
   -- the one that is reserved for the number is that entry
-  settled : Has t.kept.enrolled (a, value_of r) → IsSettled start.kept → IsSettled t.kept
-  settled entry e x has = by (v.settled e x has) where
-    by : Has t.kept.enrolled x ⊎ (x.1 ≡ value_of t.course.number) → Has t.kept.enrolled x
-    by (inl enrolled) = enrolled
+  settled : Has t.kept.enrolled (a, value_of r) → Settles start t.kept
+  settled entry x has = by (v.settled x has) where
+    by : IsSettledIn start t.kept x ⊎ (x.1 ≡ value_of t.course.number) → IsSettledIn start t.kept x
+    by (inl was) = was
     by (inr number) =
-        subst (Has t.kept.enrolled) (sym (same_member (λ (q : Assignment). q.1) t.kept.reserved x (a, value_of r) kept.reserved.random_once has reserved
-        (number ∙ same))) entry
+        inl (subst (Has t.kept.enrolled) (sym (same_member (λ (q : Assignment). q.1) t.kept.reserved x (a, value_of r) kept.reserved.random_once has reserved
+        (number ∙ same))) entry)
 
   go : (q : Order) → IsGivenBy t q → AfterFinding t a (value_of r) q → GoesTo start t q gs left
   go (Put p f) g has =
       hunts_on start t (Put p f) (value_of r) gs left st.calm (given.withdrawn_known t (Put p f) r a g is kept.enrolled has)
       (ap (begins_at t) is) v.hunted v.clear (settled has) up w.ready w.unnamed
-      (tabled_over (unseen start.gear) ((a, value_of r) ∷ t.kept.enrolled) t.kept.enrolled (those_drawn gs)
-      (entry_twice t.kept.enrolled (a, value_of r) has)
+      (tabled_over (unseen start.gear) ((a, value_of r) ∷ t.kept.enrolled) t.kept.enrolled (those_drawn gs) (entry_twice t.kept.enrolled (a, value_of r) has)
       tabled)
       ends
   go (Commit x) g has = subst (λ y. GoesTo start t (Commit y) gs left) (sym has) (
@@ -363,13 +359,13 @@ withdrawn_turns start t o r a gs left g st kept purpose is v agreed = go o g (g.
       unnamed = w.unnamed;
       above = up;
       reserved = reserved;
-      settled = λ e x is. by x (v.settled e x is);
+      settled = λ x is. by x (v.settled x is);
       tabled = tabled;
       frames = ends;
     }),
   ) where
-    by : (x : Assignment) → Has t.kept.enrolled x ⊎ (x.1 ≡ value_of t.course.number) → Has t.kept.enrolled x ⊎ (x.1 ≡ value_of r)
-    by x (inl enrolled) = inl enrolled
+    by : (x : Assignment) → IsSettledIn start t.kept x ⊎ (x.1 ≡ value_of t.course.number) → IsSettledIn start t.kept x ⊎ (x.1 ≡ value_of r)
+    by x (inl was) = inl was
     by x (inr number) = inr (number ∙ same)
   go (Done e) g has = absurd has
   go (Halt why) g has = absurd (agreed (Queried a (value_of r)) (found_at start t gs left (stage.Withdrawn r a) st is) has)
@@ -396,8 +392,7 @@ pub turned : (start : Begun) (t : Machine) (o : Order) (gs : List Gear) (left : 
 turned start t o gs left g st hand agreed whole last running = by (turn_of t.course.purpose t.course.number (stage_of t.trace)) refl where
   go : (p : Purpose) → t.course.purpose ≡ p → SurveyAt true p (stage_of t.trace) t.kept t.heard t.asked t.course start gs left
       → turn_of p t.course.number (stage_of t.trace) ≡ None → GoesTo start t o gs left
-  go (Counting a) purpose at over =
-      census_turns start t o a (stage_of t.trace) gs left g st last purpose refl running at.0 at.1 hand agreed whole over
+  go (Counting a) purpose at over = census_turns start t o a (stage_of t.trace) gs left g st last purpose refl running at.0 at.1 hand agreed whole over
   go Calling purpose at over = calling_turns start t o (stage_of t.trace) gs left g st purpose refl running at hand.numbered over
   go Drawing purpose at over =
       let drew = draw_over Drawing (stage_of t.trace) t.course.number gs tt at.draw over running in

@@ -1,14 +1,14 @@
 use Rattle.dali_progress.proofs.Below.{◌≡◌, ℕ, ◌+◌, ◌<◌, ◌≤◌, ◌⊎◌, inl, inr, Bool, true, false, zero, suc, List, [], ◌∷◌, refl, sym, ap, subst, ◌∙◌, arith}
-use Rattle.dali_progress.proofs.Below.{length, Option, Some, None, ◌&&◌, nat_le, if◌then◌else◌, nat_tests, count_by, value_of, MASK24, Answer, Silence, Byte}
-use Rattle.dali_progress.proofs.Below.{Damaged, SearchAddress, Command, Randomise, Compare, SearchHigh, SearchMiddle, SearchLow, Program, Gear, is_enabled}
-use Rattle.dali_progress.proofs.Below.{is_active, gear_taken, answer, search_after, takes, row_after, option_cons, answers_of, heard_of, Everyone, Enabled}
-use Rattle.dali_progress.proofs.Below.{is_yes, HasShort, is_bare, is_wanted, wants, gear_of, OfPowered, Seek, IsOpened, NoneNamed, row_length, silent_above}
-use Rattle.dali_progress.proofs.Below.{heard_below, LeavesShort, SeekMiddle, AreOpening, IsOpening, both_pass, count_same, after_at}
+use Rattle.dali_progress.proofs.Below.{length, Option, Some, None, ◌&&◌, if◌then◌else◌, count_by, value_of, MASK24, Answer, Silence, Byte, Damaged}
+use Rattle.dali_progress.proofs.Below.{SearchAddress, Command, Randomise, Compare, SearchHigh, SearchMiddle, SearchLow, Program, Gear, is_enabled, is_active}
+use Rattle.dali_progress.proofs.Below.{gear_taken, answer, search_after, takes, row_after, option_cons, answers_of, heard_of, Everyone, Enabled, is_yes}
+use Rattle.dali_progress.proofs.Below.{HasShort, is_bare, is_wanted, wants, gear_of, OfPowered, Seek, IsOpened, NoneNamed, row_length, silent_above}
+use Rattle.dali_progress.proofs.{Below.{heard_below, LeavesShort, SeekMiddle, AreOpening, IsOpening, both_pass, count_same, after_at}, Frames.short_left}
+use Rattle.dali_progress.proofs.{Frames.short_if, Survey.Drawn.{those_drawn, is_undrawn, is_lost, bare_split, count_first, count_nothing, of_drawn}}
+use Rattle.dali_progress.proofs.{Survey.Drawn.{undrawn_random, woken_short, AreNumbered, not_most}, Tables.LeavesNames}
 use Rattle.dali_script.specs.declared.stage.Stage.TheVariants as stage
 use Rattle.dali_events.proofs.Search.Leaving as leaving
 use Rattle.dali_events.proofs.Search.Wanted as wanted
-use Rattle.dali_progress.proofs.{Frames.short_left, Survey.Drawn.{those_drawn, is_undrawn, is_lost, bare_split, count_first, count_nothing, of_drawn}}
-use Rattle.dali_progress.proofs.{Survey.Drawn.{undrawn_random, woken_short, AreNumbered}, Tables.LeavesNames}
 
 -- GEAR WITHOUT SHORT ADDRESS while the roll is called, and while they draw.
 
@@ -57,11 +57,8 @@ count_there p (g ∷ gs) (suc k) h is = let rest = count_there p gs k (omega (ar
 
 -- if none is bare, each has a short address
 pub all_short : (gs : List Gear) → count_by is_bare gs ≡ 0 → OfPowered gs HasShort
-all_short gs none k h on = go (gear_of gs k).short refl where
-  go : (o : Option ℕ) → (gear_of gs k).short ≡ o → HasShort (gear_of gs k)
-  go (Some a) e = (a, e)
-  go None e =
-      absurd (let some : 0 < count_by is_bare gs = count_there is_bare gs k h (wanted.is_bare_by (gear_of gs k) on e) in omega (arith, some, none))
+all_short gs none k h on = short_if (gear_of gs k) (λ e. (let some : 0 < count_by is_bare gs =
+    count_there is_bare gs k h (wanted.is_bare_by (gear_of gs k) on e) in omega (arith, some, none)))
 
 -- and a frame that gives none leaves it
 pub all_left : (d : Command) (gs : List Gear) (numbers : List ℕ) → LeavesShort d → OfPowered gs HasShort
@@ -221,9 +218,6 @@ low_sent byte gs numbers small all k in_row on =
 silent_one : (g : Gear) (high middle : ℕ) → IsOpening stage.Initialised g → (g.short ≡ None → g.random ≡ MASK24) → (g.short ≡ None → g.search.low < 256)
     → (is_active g.state ≡ true → (g.search.high ≡ high) × (g.search.middle ≡ middle)) → high < 256 → middle < 255 → answer Compare g ≡ None
 silent_one g high middle was mask low seek small less = go (is_enabled g.state) refl where
-  over : (m n : ℕ) → n < m → nat_le m n ≡ false
-  over m n h = grind (arith, nat_tests, h)
-
   go : (b : Bool) → is_enabled g.state ≡ b → answer Compare g ≡ None
   go false e = rw e refl
   go true e =
@@ -234,7 +228,7 @@ silent_one g high middle was mask low seek small less = go (is_enabled g.state) 
       let one : g.search.high ≡ high = (seek active).0 in
       let two : g.search.middle ≡ middle = (seek active).1 in
       let under : value_of g.search < g.random = omega (arith, top, byte, one, two, small, less) in
-      rw (e, over g.random (value_of g.search) under) refl
+      rw (e, not_most g.random (value_of g.search) under) refl
     where
       enabled_active : is_enabled g.state ≡ true → is_active g.state ≡ true
       enabled_active e = let is : g.state ≡ Enabled = wanted.enabled_is g.state e in rw is refl

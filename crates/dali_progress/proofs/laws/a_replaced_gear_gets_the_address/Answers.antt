@@ -1,5 +1,4 @@
-use Rattle.dali_progress.proofs.Replaced.{served, served_only, others_kept, others_named}
-use Rattle.dali_progress.proofs.Replaced.{run_served, vacant_now, new_served}
+use Rattle.dali_progress.proofs.Replaced.{served, served_only, others_kept, others_named, run_served, vacant_now, new_served}
 use Rattle.dali_progress.proofs.laws.a_replaced_gear_gets_the_address.Goals as goal
 
 pub returns : goal.returns
