@@ -36,7 +36,7 @@ WORD = re.compile(
     r"""(?P<text>"(?:[^"\\]|\\.)*"|'(?:[^'\\]|\\.)')|(?P<number>\d\w*)|(?P<name>\w+)|(?P<test>[<>=!]=|&&|\|\||<(?!<)|>(?!>))"""
     r"|(?P<sum>[+*/%^-](?!=|>))|\S"
 )
-IMPL = re.compile(r"impl(?:<[^{]*?>)? (?:(\w+)(?:<.*?>)? for )?&?(\w+)")
+IMPL = re.compile(r"impl(?:<[^{]*?>)? (?:(?P<trait>\w+)(?:<(?P<of>.*?)>)? for )?&?(?P<type>\w+)")
 
 
 class Unfit(Exception):
@@ -115,13 +115,19 @@ def function(lines: list[str], at: int, module: tuple[str, ...]) -> str | None:
         if name is None and (head := HEAD.match(line)) and indent(line) < depth:
             name, depth = head[2], indent(line)
         elif name and (kind := impl_at(lines, number)) and indent(line) < depth:
-            return f"{kind[2]}{kind[1] or ''}::{name}"
+            return f"{named(kind)}::{name}"
     return name and "::".join([*module, name])
 
 
 def impl_at(lines: list[str], at: int) -> re.Match | None:
     """The `impl` that begins on a line, or nothing. What it is for may stand on the next one."""
     return IMPL.match(lines[at] if "{" in lines[at] else " ".join(map(str.strip, lines[at : at + 2]))) if lines[at].startswith("impl") else None
+
+
+def named(kind: re.Match) -> str:
+    """What the prover calls an `impl`: by its type, its trait, and what that is of but parameters."""
+    of = re.findall(r"(?:^|, )(\w{2,})", re.sub(r"<[^<>]*>", "", kind["of"] or ""))
+    return "".join([kind["type"], kind["trait"] or "", *of])
 
 
 def indent(line: str) -> int:
@@ -146,7 +152,7 @@ def plant(crate: proving.Crate, place: pathlib.Path, edit: Edit, number: int) ->
     text, changed = edit.applied((crate.folder / edit.file).read_text())
     first, head, last = item(text.splitlines(), changed[0])
     block, kind = text.splitlines()[first : last + 1], owner(text.splitlines(), head)
-    if kind and kind[1] or any("#[cycle" in it for it in block):
+    if kind and kind["trait"] or any("#[cycle" in it for it in block):
         return None
     name = HEAD.match(text.splitlines()[head])[2]
     new = f"{name}_planted_{number}"
@@ -196,7 +202,7 @@ def proofs(folder: pathlib.Path, file: str, kind: re.Match | None, name: str) ->
     """The folder with the proof of a function of a file, where it has one: of a method it stands beside those of its type, whose module may be
     another one than the file's."""
     if kind:
-        return sorted(folder.glob(f"proofs/**/{kind[2]}/{name}"))
+        return sorted(folder.glob(f"proofs/**/{kind['type']}/{name}"))
     words = pathlib.PurePath(file).with_suffix("").parts[1:]
     found = folder.joinpath("proofs", *([] if words in [("lib",), ("main",)] else words), name)
     return [found] if found.is_dir() else []

@@ -14,7 +14,7 @@ use Rattle.dali_commission_tasks.specs.declared.tasks.Replacement.{Replacement}
 use Rattle.dali_commission_stores.specs.{Calls.{Call, Look}, declared.records.Seen.Seen, Keeping.AreFree, Lent.IsHeld}
 use Rattle.dali_commission_stores.specs.Settled.{IsExchanged, IsExchangedInPart}
 use Rattle.dali_commission_replaced.specs.{declared.replacing.DueSwap.DueSwap, Due.EndsDue, Finishing.AreFinished, Tellings.ConfirmedTold}
-use Rattle.dali_commission_replaced.specs.Replacing.{IsDue, AreAsideIf, AreAtPlaces, AreApart, AreUnannounced}
+use Rattle.dali_commission_replaced.specs.Replacing.{IsDue, AreAsideIf, AreAtPlaces, AreApart, AreBehind, AreUnannounced}
 use Rattle.dali_commission_replaced.specs.Asking.{HasAskedOthers, AreRenewed, IsNotDue, IsConfirmed, IsNotConfirmedBy, first_table, NotesFirst}
 use Rattle.dali_commission_replaced.specs.Accepting.{IsAcceptCut, HasAcceptedSo, HasNotAcceptedSo, AcceptDues, AcceptFailsSo, AcceptFailsAfter}
 use Rattle.dali_commission_replaced.specs.Accepting.{HasAcceptedAnew, HasAccepted, HasNotAccepted, IsAcceptance}
@@ -33,16 +33,18 @@ module _ {F K : Type 0} (kept_of : K → Kept) (block_of : K → Block) (made : 
     pub accepted_so : (a given : ℕ) (others first : Kept) (at : F) (x mid before y : Talk) (r : Result DueSwap Failure)
         → IsAnswered wanted.short (heard.Random given) x mid → HasAskedOthers wanted.short (Given given) table wanted.missing.items mid before
         → a ≡ wanted.short → others ≡ table → first ≡ with_record others (Enrol wanted.short given)
+        → AreBehind saw stores wanted.short (Given given) names all
         → IfOk r (λ due. AreRenewed kept_of block_of made saw opens first names all stores at [] due.news.items)
         → IfOk r (λ due. IsAnswered a (heard.Random (confirmed_random due.confirmed)) before y)
         → IfOk r (λ due. HasAcceptedSo kept_of block_of made saw opens told wanted names all due.news.items (confirmed_random due.confirmed) was at x y)
-    accepted_so a given others first at x mid before y (Err e) answered asked short same of renews last = tt
-    accepted_so a given others first at x mid before y (Ok due) answered asked short same of renews last = record {
+    accepted_so a given others first at x mid before y (Err e) answered asked short same of behind renews last = tt
+    accepted_so a given others first at x mid before y (Ok due) answered asked short same of behind renews last = record {
       stores = stores;
       aside = aside;
       table = table;
       gathered = gathered;
       given = given;
+      behind = behind;
       before = before;
       there = (mid, answered, asked);
       renewed =

@@ -16,7 +16,7 @@ use Rattle.dali_commission_stores.specs.{Calls.{Call, Look, Read}, declared.reco
 use Rattle.dali_commission_stores.specs.{Keeping.AreFree, Lent.{IsLent, IsOpened, IsHeld, AreRead}, Settled.IsExchanged}
 use Rattle.dali_commission_asked.specs.{declared.ending.AtLast.AtLast, Ending.{HasAskedAtLast, pass_at_last}}
 use Rattle.dali_commission_replaced.specs.{declared.replacing.DueSwap.DueSwap, Due.{Dues, EndsDue}}
-use Rattle.dali_commission_replaced.specs.Replacing.{IsGiver, HasCome, AreAsideIf, AreAtPlaces, AreApart}
+use Rattle.dali_commission_replaced.specs.Replacing.{IsGiver, FirstUnknown, HasCome, AreAsideIf, AreAtPlaces, AreApart}
 use Rattle.dali_commission_replaced.specs.Finishing.{AreFinished}
 use Rattle.dali_commission_replaced.specs.Asking.{HasAskedOthers, given_as, HasGivenSo, GivesSo, IsGivenIn, GivesFirst, IsNamed, IsRenewed, AreRenewed}
 use Rattle.dali_commission_replaced.specs.Asking.{IsPlanned, HasReplacedSo, HasReplacedAnew, HasReplaced, first_table, NotesFirst, IsConfirmed}
@@ -120,8 +120,8 @@ module _ {F K R W : Type 0} (is_up is_sound : K → Type 0) (holds : K → List 
 abbrev pub planned : {F : Type 0} (made : F → F → Call → Type 0) (saw : F → Look → Type 0) (told : Said → Type 0) (wanted : Replacement)
     (names : List (String Global)) (all : List Kept) (giver : ℕ) (come : Come) (table : Kept) (was stores : F)
     → AreAsideIf wanted.is_again made saw told names was stores → IsGiver wanted all giver → HasCome saw stores names all giver wanted.short come
-    → IsGathered wanted.short all table → IsPlanned made saw told wanted names all was
-planned made saw told wanted names all giver come table was stores aside gives comes gathered = record {
+    → IsGathered wanted.short all table → FirstUnknown wanted.short all wanted.missing.items None → IsPlanned made saw told wanted names all was
+planned made saw told wanted names all giver come table was stores aside gives comes gathered known = record {
   stores = stores;
   aside = aside;
   giver = giver;
@@ -130,6 +130,7 @@ planned made saw told wanted names all giver come table was stores aside gives c
   comes = comes;
   table = table;
   gathered = gathered;
+  known = known;
 }
 
 module _ {F K R W : Type 0} (is_up is_sound : K → Type 0) (holds : K → List Record → Type 0) (kept_of : K → Kept) (block_of : K → Block)

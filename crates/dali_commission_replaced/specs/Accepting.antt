@@ -1,16 +1,17 @@
-use Rattle.std.specs.Prelude.{◌≡◌, ◌⊎◌, ℕ, Bool, List, [], Option, Some, None, Result, Ok, Err, map}
-use Rattle.std.specs.Prelude.{string_bytes}
+use Rattle.std.specs.Prelude.{◌≡◌, ◌⊎◌, ℕ, Bool, List, [], ◌∷◌, Option, Some, None, Result, Ok, Err}
+use Rattle.std.specs.Prelude.{map, string_bytes}
 use Rattle.std.specs.declared.alloc.Global.{Global}
 use Rattle.std.specs.declared.string.String.{String}
 use Rattle.dali_script.specs.declared.block.Block.{Block}
 use Rattle.dali_script.specs.declared.records.Record.TheVariants.{Enrol}
-use Rattle.dali_script.specs.Records.{Kept, with_record}
+use Rattle.dali_script.specs.Records.{Kept, Has, with_record}
 use Rattle.dali_commissioning.specs.declared.census.Reply.{Reply}
 use Rattle.dali_commissioning.specs.declared.census.Reply.TheVariants as heard
 use Rattle.dali_commissioning.specs.Census.{IsAnswered}
 use Rattle.dali_commissioning.specs.Drivers.{Talk, talk_of, has_heard, lines_of}
 use Rattle.dali_replacement.specs.declared.come.Come.TheVariants.{Given}
 use Rattle.dali_replacement.specs.declared.refusal.ReplaceRefusal.{ReplaceRefusal}
+use Rattle.dali_replacement.specs.declared.refusal.ReplaceRefusal.TheVariants as refusal
 use Rattle.dali_replacement.specs.declared.swapping.Swap.{Swap}
 use Rattle.dali_replacement.specs.Permit.{confirmed_random}
 use Rattle.dali_replacement.specs.Swapping.{address_of, names_of, number_of, texts_of}
@@ -34,7 +35,7 @@ use Rattle.dali_commission_replaced.specs.Asking.{IsLeftAt}
 use Rattle.dali_commission_replaced.specs.Cut.{HasNotAskedOthers}
 use Rattle.dali_commission_replaced.specs.Finishing.{AreFinished}
 use Rattle.dali_commission_replaced.specs.Replacing.{AreAsideIf, AreAtPlaces, AreApart}
-use Rattle.dali_commission_replaced.specs.Replacing.{AreUnannounced, IsDue}
+use Rattle.dali_commission_replaced.specs.Replacing.{AreUnannounced, AreBehind, IsDue}
 use Rattle.dali_commission_replaced.specs.Tellings.{ConfirmedTold}
 
 -- WHAT `replace --accept` PUTS: questions alone, which change no gear. The short address is asked,
@@ -48,18 +49,29 @@ HasHeardThere a table gone given x y =
     × HasAskedOthers a (Given given) table gone at y
 
 -- It fails: no gear answers there alone, or one that a table has; or the question is cut short.
-abbrev pub IsNotAlone : ℕ → Failure → Talk → Talk → Type 0
-IsNotAlone a failure x y =
+abbrev pub IsKnown : ℕ → ℕ → List Kept → Type 0
+IsKnown a r [] = ⊥
+IsKnown a r (k ∷ more) = Has k.enrolled (a, r) ⊎ IsKnown a r more
+
+abbrev pub NotAlone : ℕ → List Kept → Reply → ReplaceRefusal → Type 0
+NotAlone a all heard.Silence why = why ≡ refusal.NewSilent
+NotAlone a all (heard.Random r) why = IsKnown a r all × (why ≡ refusal.Answered)
+NotAlone a all heard.Noise why = why ≡ refusal.SeveralAnswer
+NotAlone a all heard.Unclear why = why ≡ refusal.SeveralAnswer
+NotAlone a all heard.Several why = why ≡ refusal.SeveralAnswer
+
+abbrev pub IsNotAlone : ℕ → List Kept → Failure → Talk → Talk → Type 0
+IsNotAlone a all failure x y =
     ((reply : Reply)
     × IsAnswered a reply x y
-    × ((why : ReplaceRefusal) × (failure ≡ NotReplaced a why)))
+    × ((why : ReplaceRefusal) × NotAlone a all reply why × (failure ≡ NotReplaced a why)))
     ⊎ ((line : ℕ) × IsCutAs failure line y)
 
 -- Or the others are not all there.
-abbrev pub HasNotHeardThere : Bool → ℕ → Kept → List ℕ → Failure → Report → Report → Talk → Talk
-    → Type 0
-HasNotHeardThere hears a table gone failure before after x y =
-    (IsNotAlone a failure x y × (after ≡ before))
+abbrev pub HasNotHeardThere : Bool → ℕ → List Kept → Kept → List ℕ → Failure → Report → Report
+    → Talk → Talk → Type 0
+HasNotHeardThere hears a all table gone failure before after x y =
+    (IsNotAlone a all failure x y × (after ≡ before))
     ⊎ ((given : ℕ)
     × (at : Talk)
     × IsAnswered a (heard.Random given) x at
@@ -76,6 +88,7 @@ pub record HasAcceptedSo {F K : Type 0} (kept_of : K → Kept) (block_of : K →
   pub table : Kept
   pub gathered : IsGathered wanted.short all table
   pub given : ℕ
+  pub behind : AreBehind saw stores wanted.short (Given given) names all
   pub before : Talk
   pub there : HasHeardThere wanted.short table wanted.missing.items given x before
   pub renewed : AreRenewed kept_of block_of made saw opens
@@ -89,7 +102,7 @@ abbrev pub IsAcceptCut : {F K : Type 0} (kept_of : K → Kept) (block_of : K →
     → Type 0
 IsAcceptCut kept_of block_of made saw opens wanted names all stores table hears failure reported
     report x y =
-    HasNotHeardThere hears wanted.short table wanted.missing.items failure reported report x y
+    HasNotHeardThere hears wanted.short all table wanted.missing.items failure reported report x y
     ⊎ ((given : ℕ)
     × (before : Talk)
     × HasHeardThere wanted.short table wanted.missing.items given x before

@@ -51,7 +51,7 @@ use Rattle.dali_commission_replaced.specs.Cut.{HasNotAskedOthers, IsGivingCut, I
 use Rattle.dali_commission_replaced.specs.Cut.{IsNotHeardOf}
 use Rattle.dali_commission_replaced.specs.Finishing.{AreFinished, AreFinishedInPart}
 use Rattle.dali_commission_replaced.specs.Replacing.{IsGiver, HasCome, AreAsideIf, AreAtPlaces}
-use Rattle.dali_commission_replaced.specs.Replacing.{AreApart, AreUnannounced, IsDue}
+use Rattle.dali_commission_replaced.specs.Replacing.{AreApart, AreUnannounced, IsDue, FirstUnknown}
 use Rattle.dali_commission_replaced.specs.Tellings.{ConfirmedTold}
 
 -- WHAT `replace` PUTS. First the short address is asked, and then each gear of the table: what is
@@ -267,6 +267,7 @@ pub record IsPlanned {F : Type 0} (made : F → F → Call → Type 0) (saw : F 
   pub comes : HasCome saw stores names all giver wanted.short come
   pub table : Kept
   pub gathered : IsGathered wanted.short all table
+  pub known : FirstUnknown wanted.short all wanted.missing.items None
 
 -- A REPLACEMENT asks for all others, gives the address in the giver's new file, fills the others,
 -- and asks for the new gear at last.

@@ -1,21 +1,21 @@
 //! `replace --accept`: the luminaire that answers at a short address takes the place of the one in the tables.
 
-ghost use Rattle.std.specs.Prelude.{◌≡◌, ◌⊎◌, ℕ, IfOk, IfErr, OnOk};
+ghost use Rattle.std.specs.Prelude.{◌≡◌, ◌⊎◌, ℕ, IfOk, IfErr, OnOk, IsTrue};
 ghost use Rattle.dali_script.specs.declared.records.Record.TheVariants.{Enrol};
 ghost use Rattle.dali_script.specs.Records.{with_record};
 ghost use Rattle.dali_commissioning.specs.declared.census.Reply.TheVariants as heard;
 ghost use Rattle.dali_commissioning.specs.Census.{IsAnswered};
 ghost use Rattle.dali_commissioning.specs.Drivers.{talk_of, has_heard};
 ghost use Rattle.dali_replacement.specs.Permit.{confirmed_random};
-ghost use Rattle.dali_commission_replaced.specs.Accepting.{IsNotAlone, HasAcceptedSo, HasNotAcceptedSo};
-ghost use Rattle.dali_commission_replaced.specs.Accepting.{HasAccepted, HasNotAccepted};
+ghost use Rattle.dali_commission_replaced.specs.Accepting.{IsKnown, NotAlone, IsNotAlone, HasAcceptedSo};
+ghost use Rattle.dali_commission_replaced.specs.Accepting.{HasNotAcceptedSo, HasAccepted, HasNotAccepted};
 ghost use Rattle.dali_commission_replaced.specs.Replacing.{IsDue};
 
 use crate::confirming::Asking;
 use crate::finishing::{confirms, exchanged};
 use crate::replacing::{
-    DueSwap, Replacing, are_apart, are_unannounced, is_behind, note_first, note_read, places_of,
-    put_aside_if, table,
+    DueSwap, Replacing, are_apart, are_unannounced, note_first, note_read, places_of, put_aside_if,
+    table,
 };
 use dali_commission_said::{Failure, Manner, Report, Session, Voice, failure_of, say_refused};
 use dali_commission_stores::{Holder, Stores, exchange, read_all, say_kept};
@@ -27,16 +27,22 @@ use dali_script::{Kept, Record};
 use std::io::{Read, Write};
 
 /// Whether a table has a gear at a short address.
-fn is_known(short: Short, random: Random24, all: &[Kept]) -> bool {
+fn is_known(short: Short, random: Random24, all: &[Kept]) -> bool
+    ensures { IsTrue result → IsKnown short random all.now }
+{
     let [table, more @ ..] = all else {
         return false;
     };
-    table.enrolled_at(short) == Some(random) || is_known(short, random, more)
+    match table.enrolled_at(short) {
+        Some(other) if other == random => true,
+        _ => is_known(short, random, more),
+    }
 }
 
 /// One gear was heard at a short address, and is not the one that a table has there; or why it is not accepted.
 fn alone(short: Short, reply: Reply, all: &[Kept]) -> Result<Random24, ReplaceRefusal>
-    ensures { IfOk result (λ random. reply ≡ heard.Random random) }
+    ensures heard { IfOk result (λ random. reply ≡ heard.Random random) }
+    ensures refused { IfErr result (NotAlone short all.now reply) }
 {
     match reply {
         Reply::Random(random) => {
@@ -59,7 +65,7 @@ fn there<S: Voice, R: Read, W: Write>(
 ) -> Result<Random24, Failure>
     ensures heard { IfOk result (λ random. IsAnswered asking.now.wanted.now.short (heard.Random random)
         (talk_of R.remaining W.contents driver.old) (talk_of R.remaining W.contents driver.new)) }
-    ensures failed { IfErr result (λ failure. IsNotAlone asking.now.wanted.now.short failure
+    ensures failed { IfErr result (λ failure. IsNotAlone asking.now.wanted.now.short all.now failure
         (talk_of R.remaining W.contents driver.old) (talk_of R.remaining W.contents driver.new)) }
 {
     let reply = match ask(driver, asking.wanted.short) {
@@ -92,24 +98,6 @@ struct Accepting<'a, S> {
 }
 
 impl<S: Voice + AllocGlobal> Accepting<'_, S> {
-    /// No new file of an earlier call has another gear at the short address.
-    fn may_go_on<F: Stores>(
-        &self,
-        stores: &F,
-        all: &[Kept],
-        random: Random24,
-    ) -> Result<(), Failure> {
-        for (name, old) in self.by.names.iter().zip(all) {
-            if !is_behind(
-                &self.by.come(stores, name, old, false)?,
-                &Come::Given(random),
-            ) {
-                return Err(self.by.asking.refusal(ReplaceRefusal::OtherNew));
-            }
-        }
-        Ok(())
-    }
-
     /// Hears the luminaire and all others. The swap that is due then.
     fn accepts<F: Stores, R: Read, W: Write>(
         &self,
@@ -137,7 +125,9 @@ impl<S: Voice + AllocGlobal> Accepting<'_, S> {
         let random = there(asking, driver, all)?;
         let others = asking.others_there(driver, Come::Given(random), rest, report)?;
         let first = beside(asking, others.table(), random)?;
-        self.may_go_on(stores, all, random)?;
+        // No new file of an earlier call has another gear at the short address.
+        self.by
+            .are_behind(stores, self.by.names, all, &Come::Given(random))?;
         self.by.due(stores, driver, all, others, &first)
     }
 }

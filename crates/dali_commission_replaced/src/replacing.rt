@@ -1,12 +1,13 @@
 //! `replace`: a new luminaire gets the short address of one that is gone.
 
 ghost use Rattle.std.specs.Prelude.{◌≡◌, ◌↔◌, ◌⊎◌, ℕ, List, [], ◌++◌, map, true, IsTrue, IfOk, IfErr, OnOk};
-ghost use Rattle.std.specs.Prelude.{string_bytes, IfSome, Ok, Err};
+ghost use Rattle.std.specs.Prelude.{string_bytes, IfSome, None, Ok, Err};
 ghost use Rattle.dali_script.specs.Records.{HasAddress};
 ghost use Rattle.dali_replacement.specs.Permit.{others_at};
 ghost use Rattle.dali_replacement.specs.Tables.{IsGathered, Lacks};
 ghost use Rattle.dali_commission_stores.specs.Calls.{AreMade, Read};
-ghost use Rattle.dali_commission_replaced.specs.Replacing.{IsAnywhere, IsGiver, IsDue, AreAside, AreAsideIf, HasCome};
+ghost use Rattle.dali_commission_replaced.specs.Replacing.{IsAnywhere, FirstUnknown, IsNotTable, IsGiver};
+ghost use Rattle.dali_commission_replaced.specs.Replacing.{IsDue, AreAside, AreAsideIf, AreBehind, HasCome};
 ghost use Rattle.dali_commission_replaced.specs.Replacing.{AreAtPlaces, IsApart, IsApartFrom, AreApart};
 ghost use Rattle.dali_commission_replaced.specs.Replacing.{AreUnannounced};
 ghost use Rattle.dali_commission_stores.specs.Seen.{ComeSo};
@@ -168,19 +169,33 @@ fn giver(wanted: &Replacement, all: &[Kept]) -> Result<usize, Failure>
     }
 }
 
+/// The first short address that is said to be gone and is the one that is replaced, or which no table has.
+fn first_unknown(short: Short, all: &[Kept], gone: &[Short]) -> Option<Short>
+    ensures { FirstUnknown short all.now gone.now result }
+{
+    let [first, more @ ..] = gone else {
+        return None;
+    };
+    if *first == short || !is_anywhere(all, *first) {
+        Some(*first)
+    } else {
+        first_unknown(short, all, more)
+    }
+}
+
 /// What is to be in each new table beside the new gear.
 pub(crate) fn table(wanted: &Replacement, all: &[Kept]) -> Result<Kept, Failure>
     ensures all { IfOk result (λ table. IsGathered wanted.now.short all.now table) }
     ensures without { IfOk result (λ table. Lacks wanted.now.short table) }
+    ensures known { OnOk result (FirstUnknown wanted.now.short all.now wanted.now.missing.items None) }
+    ensures refused { IfErr result (IsNotTable wanted.now all.now) }
 {
     let short = wanted.short;
     if !is_anywhere(all, short) {
         return Err(Failure::NotReplaced(short, ReplaceRefusal::NotInTables));
     }
-    for gone in wanted.missing.iter() {
-        if *gone == short || !is_anywhere(all, *gone) {
-            return Err(Failure::NotReplaced(*gone, ReplaceRefusal::NotMissing));
-        }
+    if let Some(gone) = first_unknown(short, all, &wanted.missing) {
+        return Err(Failure::NotReplaced(gone, ReplaceRefusal::NotMissing));
     }
     match gathered(all, short) {
         Ok(table) => Ok(table),
@@ -197,7 +212,7 @@ pub(crate) struct Replacing<'a, S> {
 }
 
 /// Whether another one's new records have come no further than the giver's.
-pub(crate) fn is_behind(other: &Come, come: &Come) -> bool
+fn is_behind(other: &Come, come: &Come) -> bool
     ensures { IsTrue result ↔ ((other.now ≡ Come.Nowhere) ⊎ (other.now ≡ come.now)) }
 {
     matches!(other, Come::Nowhere) || other == come
@@ -225,6 +240,30 @@ impl<S: Voice + AllocGlobal> Replacing<'_, S> {
         }
     }
 
+    /// No new file of these names has another gear there than the one of which an earlier call has come so far.
+    pub fn are_behind<F: Stores>(
+        &self,
+        stores: &F,
+        names: &[String],
+        olds: &[Kept],
+        come: &Come,
+    ) -> Result<(), Failure>
+        ensures { OnOk result (AreBehind F.saw stores.now self.now.asking.now.wanted.now.short come.now
+            names.now olds.now) }
+    {
+        let [name, more @ ..] = names else {
+            return Ok(());
+        };
+        let [old, others @ ..] = olds else {
+            return Ok(());
+        };
+        if is_behind(&self.come(stores, name, old, false)?, come) {
+            self.are_behind(stores, more, others, come)
+        } else {
+            Err(self.asking.refusal(ReplaceRefusal::OtherNew))
+        }
+    }
+
     /// How far an earlier call has come. No other new file has another gear there than the giver's.
     fn all_come<F: Stores>(&self, stores: &F, all: &[Kept], giver: usize) -> Result<Come, Failure>
         ensures { IfOk result (HasCome F.saw stores.now self.now.names.now all.now giver
@@ -234,11 +273,8 @@ impl<S: Voice + AllocGlobal> Replacing<'_, S> {
             return Err(REFUSED);
         };
         let come = self.come(stores, name, old, true)?;
-        for (number, (name, old)) in self.names.iter().zip(all).enumerate() {
-            if number != giver && !is_behind(&self.come(stores, name, old, false)?, &come) {
-                return Err(self.asking.refusal(ReplaceRefusal::OtherNew));
-            }
-        }
+        self.are_behind(stores, &self.names[..giver], &all[..giver], &come)?;
+        self.are_behind(stores, &self.names[giver + 1..], &all[giver + 1..], &come)?;
         Ok(come)
     }
 
@@ -248,6 +284,8 @@ impl<S: Voice + AllocGlobal> Replacing<'_, S> {
         ensures giver { IfOk result (λ plan. IsGiver self.now.asking.now.wanted.now all.now plan.giver) }
         ensures come { IfOk result (λ plan. HasCome F.saw stores.now self.now.names.now all.now plan.giver
             self.now.asking.now.wanted.now.short plan.come) }
+        ensures known { OnOk result (FirstUnknown self.now.asking.now.wanted.now.short all.now
+            self.now.asking.now.wanted.now.missing.items None) }
     {
         let table = table(self.asking.wanted, all)?;
         let giver = giver(self.asking.wanted, all)?;

@@ -211,13 +211,6 @@ impl Report {
         }
         ended
     }
-
-    /// Notes the records as they are in the end.
-    pub fn note_table(&mut self, kept: &Kept)
-        ensures { self.new.table.items ≡ own_rows kept.now.reserved (rows kept.now.enrolled) }
-    {
-        self.table = own_rows(kept);
-    }
 }
 
 /// What is said of the end of the last machine: which gear its survey left alone, and why it ended so.

@@ -8,7 +8,7 @@ returns-clause-accepted g c =
     c.in_ok-rest.rest c.in_ok-put_aside_if.ensures c.in_ok-rest.ensures.all _ c.in_ok-random.random c.table-2.result.now c.in_ok-first.first
     c.due.new.stores _ _ _ _ c.due.result c.in_ok-random.ensures.heard c.in_ok-others.ensures.asked c.in_ok-others.ensures.short
     (c.table-2.ensures ∙ c.in_ok-others.ensures.table)
-    c.in_ok-first.ensures c.due.ensures.renewed c.due.ensures.last
+    c.in_ok-first.ensures c.in_ok-are_behind.ensures c.due.ensures.renewed c.due.ensures.last
 
 pub returns-clause-failed : goal.returns-clause-failed
 returns-clause-failed g c =
@@ -37,9 +37,9 @@ returns-in_err-first-clause-failed g c =
     c.from_residual-in_err-first.ensures.1
     (inr (c.in_ok-random.random, _, (_, c.in_ok-random.ensures.heard, c.in_ok-others.ensures.asked), inl refl, c.in_ok-others.ensures.noted))
 
-pub returns-in_err-may_go_on-clause-failed : goal.returns-in_err-may_go_on-clause-failed
-returns-in_err-may_go_on-clause-failed g c =
+pub returns-in_err-are_behind-clause-failed : goal.returns-in_err-are_behind-clause-failed
+returns-in_err-are_behind-clause-failed g c =
     cut_short g.F.Open.Keep.kept g.F.Open.Keep.block g.F.Stores.made g.F.Stores.saw g.F.Stores.opens _ _ _ _ _ c.put_aside_if.new.stores
-    c.in_ok-rest.rest c.in_ok-put_aside_if.ensures c.in_ok-rest.ensures.all _ _ _ _ _ _ c.in_err-may_go_on.field-0.0 c.from_residual-in_err-may_go_on.result
-    c.from_residual-in_err-may_go_on.ensures.1
+    c.in_ok-rest.rest c.in_ok-put_aside_if.ensures c.in_ok-rest.ensures.all _ _ _ _ _ _ c.in_err-are_behind.field-0.0 c.from_residual-in_err-are_behind.result
+    c.from_residual-in_err-are_behind.ensures.1
     (inr (c.in_ok-random.random, _, (_, c.in_ok-random.ensures.heard, c.in_ok-others.ensures.asked), inl refl, c.in_ok-others.ensures.noted))
