@@ -32,6 +32,8 @@ mod memory;
 #[cfg(test)]
 mod mending;
 #[cfg(test)]
+mod moments;
+#[cfg(test)]
 mod plan;
 #[cfg(test)]
 mod records;

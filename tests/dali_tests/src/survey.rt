@@ -1,628 +1,150 @@
 //! A machine that begins by a survey: what it asks, which gear it enrols, what it gives and what it leaves alone.
+//! `moments` says how a story is written.
 
-use super::machine::{
-    DAMAGED, FOUND, Moment, OPENED, SILENCE, YES, goes_on, machine_of, ordered, searches,
-};
-use super::values::InNumbers::{Enrol, Release, Reserve};
-use super::values::Ordered::{Commit, Done, Halt, NotDue, Put};
-use super::values::{InNumbers, Ordered, same, short};
-use dali_controller::Machine;
-use dali_frame::Answer;
-use dali_script::{End, Fault, Input};
-use std::process::Abort;
+use super::moments::{SILENCE, Told, YES, all_play, machine_of, ordered};
+use super::values::Ordered::{Done, Put};
+use super::values::{same, short};
+use dali_script::{End, Input};
 use std::test::Fail;
 
-/// After which frame what is heard; after all others it is silence.
-type Heard = (u16, Input);
-
-/// A roll call up to its first COMPARE: all gear without short address are initialised and asked under FFFFFF. They
-/// draw no number.
-const CALLED: [Moment; 7] = [
-    (SILENCE, Put(3, 0xA100)),
-    (SILENCE, Put(1, 0xA5FF)),
-    (SILENCE, Put(1, 0xA5FF)),
-    (SILENCE, Put(1, 0xB1FF)),
-    (SILENCE, Put(1, 0xB5FF)),
-    (SILENCE, Put(1, 0xB3FF)),
-    (SILENCE, Put(1, 0xA900)),
-];
-
-/// The first COMPARE was silent: one more, and that is silent too.
-const ONCE_MORE: [Moment; 1] = [(SILENCE, Put(1, 0xA900))];
-
-/// A hunt that finds no gear: COMPARE under FFFFFE, and once more, with no search byte again.
-const NOBODY: [Moment; 5] = [
-    (YES, Put(3, 0xB1FF)),
-    (SILENCE, Put(1, 0xB5FE)),
-    (SILENCE, Put(1, 0xB3FF)),
-    (SILENCE, Put(1, 0xA900)),
-    (SILENCE, Put(1, 0xA900)),
-];
-
-/// The gear heard in the roll call never drew: whether gear are to be searched is asked once more, under FFFExx, and
-/// none is heard.
-const DRAWN: [Moment; 8] = [
-    (SILENCE, Put(3, 0xA100)),
-    (SILENCE, Put(1, 0xA5FF)),
-    (SILENCE, Put(1, 0xA5FF)),
-    (SILENCE, Put(1, 0xB1FF)),
-    (SILENCE, Put(1, 0xB3FE)),
-    (SILENCE, Put(1, 0xA900)),
-    (SILENCE, Put(1, 0xA700)),
-    (SILENCE, Put(1, 0xA700)),
-];
-
-/// The hunt after a draw finds no gear.
-const DREW_NOBODY: [Moment; 5] = [
-    (SILENCE, Put(3, 0xB1FF)),
-    (SILENCE, Put(1, 0xB5FE)),
-    (SILENCE, Put(1, 0xB3FF)),
-    (SILENCE, Put(1, 0xA900)),
-    (SILENCE, Put(1, 0xA900)),
-];
-
-/// Some gear is heard before gear draw, so none does: gear are searched.
-const BARRED: [Moment; 7] = [
-    (SILENCE, Put(3, 0xA100)),
-    (SILENCE, Put(1, 0xA5FF)),
-    (SILENCE, Put(1, 0xA5FF)),
-    (SILENCE, Put(1, 0xB1FF)),
-    (SILENCE, Put(1, 0xB3FE)),
-    (SILENCE, Put(1, 0xA900)),
-    (YES, Put(3, 0xB1FF)),
-];
-
-/// A close, once a second roll call in a row was silent.
-const ALL_FOUND: [Moment; 3] = [
-    (SILENCE, Put(3, 0xA100)),
-    (SILENCE, Done(End::AllFound)),
-    (Input::Survey, NotDue),
-];
-
-/// How many frames the questions have that find 000000. A first transaction asks FFFFFE and 7FFFFF; seven of eight
-/// frames ask three numbers each, as 3FFFFF, 1FFFFF and 0FFFFF; the last one asks 000001 and 000000.
-const HUNTED: u32 = 69;
-
-fn heard_after(heard: &[Heard], frame: u16) -> Input {
-    for (sent, answer) in heard {
-        if *sent == frame {
-            return *answer;
-        }
-    }
-    SILENCE
-}
-
-/// What the machine is told behind an order: a record is the next of these, and is kept.
-fn told_after<R: Abort>(
-    rt: &R,
-    order: Ordered,
-    heard: &[Heard],
-    records: &[InNumbers],
-    kept: &mut usize,
-) -> Input {
-    match order {
-        Put(_, frame) => heard_after(heard, frame),
-        Commit(record) => {
-            same(rt, &records.get(*kept).copied(), &Some(record));
-            *kept = kept.saturating_add(1);
-            Input::Committed
-        }
-        Done(_) | Halt(_) | NotDue => Input::Start,
-    }
-}
-
-/// The machine surveys, for so many orders; what it orders to be kept are these records, and they are kept.
-fn surveys<R: Abort>(
-    rt: &R,
-    machine: &mut Machine,
-    heard: &[Heard],
-    records: &[InNumbers],
-    orders: u32,
-) {
-    let mut told = Input::Survey;
-    let mut kept: usize = 0;
-    for _ in 0..orders {
-        told = told_after(rt, ordered(machine, told), heard, records, &mut kept);
-    }
-    same(rt, &kept, &records.len());
-}
-
-/// A story of a survey: its name, the block and the records of before, what is heard, what is kept, how many orders the
-/// survey has, and what the machine is told then and orders, one part after the other.
-type Surveyed<'a> = (
-    &'a str,
-    (u8, u8),
-    &'a [InNumbers],
-    &'a [Heard],
-    &'a [InNumbers],
-    u32,
-    &'a [&'a [Moment]],
-);
-
-/// A machine that has surveyed so, and was told one part after the other.
-fn played<R: Abort>(rt: &R, story: &Surveyed<'_>) -> Result<Machine, Fail> {
-    let (name, block, before, heard, records, orders, parts) = *story;
-    let mut machine = machine_of(block, before)?;
-    surveys(rt, &mut machine, heard, records, orders);
-    goes_on(rt, name, &mut machine, parts);
-    Ok(machine)
-}
-
-/// The survey loses a question, and asks it again.
-const ASKED_AGAIN: [Moment; 9] = [
-    (Input::Survey, Put(3, 0x01C2)),
-    (SILENCE, Put(3, 0x01C2)),
-    (Input::Destroyed, Put(3, 0x01C2)),
-    (Input::Lapsed, Put(3, 0x01C2)),
-    (SILENCE, Put(3, 0x01C2)),
-    (Input::Heard(Answer::Byte(0x12)), Put(1, 0x01C3)),
-    (Input::Destroyed, Put(3, 0x01C2)),
-    (DAMAGED, Put(3, 0x03C2)),
-    (Input::Start, NotDue),
-];
-
-/// A byte is heard, and then the question is lost and no gear answers any more.
-const ANSWERED_ONCE: [Moment; 6] = [
-    (Input::Survey, Put(3, 0x01C2)),
-    (Input::Heard(Answer::Byte(0x12)), Put(1, 0x01C3)),
-    (Input::Destroyed, Put(3, 0x01C2)),
-    (SILENCE, Put(3, 0x01C2)),
-    (SILENCE, Put(3, 0x01C2)),
-    (SILENCE, Put(3, 0x03C2)),
-];
-
-/// Gear that tells its number under address 0.
-const TOLD: [Heard; 3] = [
-    (0x01C2, Input::Heard(Answer::Byte(0x12))),
-    (0x01C3, Input::Heard(Answer::Byte(0x34))),
-    (0x01C4, Input::Heard(Answer::Byte(0x56))),
-];
-
-/// With no other address in the block no gear draws a number, though some gear there has none.
-const NOTHING_TO_GIVE: [&[Moment]; 3] = [
-    &CALLED,
-    &NOBODY,
-    &[(SILENCE, Put(3, 0xA100)), (SILENCE, Done(End::BlockFull))],
-];
-
-/// Plays stories of surveys: one more costs no proof.
-fn all_play<R: Abort>(rt: &R, stories: &[Surveyed<'_>]) -> Result<(), Fail> {
-    for story in stories {
-        played(rt, story)?;
-    }
-    Ok(())
-}
-
-const SURVEYS: [Surveyed<'static>; 10] = [
-    (
-        "silence is asked three times under each address",
-        (0, 3),
-        &[],
-        &[],
-        &[],
-        192,
-        &[&CALLED, &ONCE_MORE, &CALLED, &ONCE_MORE, &ALL_FOUND],
-    ),
-    (
-        "a roll call is silent, and somebody answers the second one",
-        (0, 3),
-        &[],
-        &[],
-        &[],
-        192,
-        &[&CALLED, &ONCE_MORE, &CALLED, &NOBODY, &DRAWN],
-    ),
-    (
-        "the second question of a roll call is answered",
-        (0, 3),
-        &[],
-        &[],
-        &[],
-        192,
-        &[&CALLED, &ONCE_MORE, &NOBODY, &DRAWN],
-    ),
-    (
-        "three draws are the most",
-        (0, 3),
-        &[],
-        &[],
-        &[],
-        192,
-        &[
-            &CALLED,
-            &NOBODY,
-            &DRAWN,
-            &DREW_NOBODY,
-            &DRAWN,
-            &DREW_NOBODY,
-            &DRAWN,
-            &DREW_NOBODY,
-            &CALLED,
-            &NOBODY,
-            &[(SILENCE, Put(3, 0xA100)), (SILENCE, Done(End::GaveUp))],
-        ],
-    ),
-    (
-        "after three draws no gear is left",
-        (0, 3),
-        &[],
-        &[],
-        &[],
-        192,
-        &[
-            &CALLED,
-            &NOBODY,
-            &DRAWN,
-            &DREW_NOBODY,
-            &DRAWN,
-            &DREW_NOBODY,
-            &DRAWN,
-            &DREW_NOBODY,
-            &CALLED,
-            &ONCE_MORE,
-            &CALLED,
-            &ONCE_MORE,
-            &ALL_FOUND,
-        ],
-    ),
-    (
-        "nobody draws where somebody is heard",
-        (0, 3),
-        &[],
-        &[],
-        &[],
-        192,
-        &[&CALLED, &NOBODY, &BARRED],
-    ),
-    (
-        "gear that tells a number is enrolled",
-        (8, 9),
-        &[],
-        &TOLD,
-        &[Enrol(0, 0x123456)],
-        193,
-        &[&CALLED],
-    ),
-    (
-        "another address that is reserved for the number is given back",
-        (8, 9),
-        &[Reserve(9, 0x123456)],
-        &TOLD,
-        &[Enrol(0, 0x123456), Release(9, 0x123456)],
-        194,
-        &[&CALLED],
-    ),
-    (
-        "what the table names is asked only where it is reserved",
-        (8, 9),
-        &[Enrol(1, 0x111111), Enrol(2, 0x222222)],
-        &[],
-        &[],
-        186,
-        &[&CALLED],
-    ),
-    (
-        "another number at an address of the table is a conflict",
-        (0, 3),
-        &[Reserve(0, 0x111111), Enrol(0, 0x111111)],
-        &[],
-        &[],
-        0,
-        &[&[
-            (Input::Survey, Put(3, 0x01C2)),
-            (Input::Heard(Answer::Byte(0x12)), Put(1, 0x01C3)),
-            (Input::Heard(Answer::Byte(0x34)), Put(1, 0x01C4)),
-            (Input::Heard(Answer::Byte(0x56)), Halt(Fault::Conflict)),
-        ]],
-    ),
-];
+/// Surveys that enrol what is told.
+const SURVEYS: &str = "
+= silence is asked three times under each address
+surveys 192; @called; @once-more; @called; @once-more; - > 3 A100; - > done all-found; survey > not-due
+= a roll call is silent, and somebody answers the second one
+surveys 192; @called; @once-more; @called; @nobody; @drawn
+= the second question of a roll call is answered
+surveys 192; @called; @once-more; @nobody; @drawn
+= three draws are the most
+surveys 192; @called; @nobody; @drawn; @drew-nobody; @drawn; @drew-nobody; @drawn; @drew-nobody; @called
+@nobody; - > 3 A100; - > done gave-up
+= after three draws no gear is left
+surveys 192; @called; @nobody; @drawn; @drew-nobody; @drawn; @drew-nobody; @drawn; @drew-nobody; @called
+@once-more; @called; @once-more; - > 3 A100; - > done all-found; survey > not-due
+= nobody draws where somebody is heard
+surveys 192; @called; @nobody; - > 3 A100; - > 1 A5FF; - > 1 A5FF; - > 1 B1FF; - > 1 B3FE; - > 1 A900
+FF > 3 B1FF
+= gear that tells a number is enrolled
+block 8-9; @told; keeps enrol 0 123456; surveys 193; @called
+= another address that is reserved for the number is given back
+block 8-9; has reserve 9 123456; @told; keeps enrol 0 123456; keeps release 9 123456; surveys 194; @called
+= what the table names is asked only where it is reserved
+block 8-9; has enrol 1 111111; has enrol 2 222222; surveys 186; @called
+= another number at an address of the table is a conflict
+has reserve 0 111111; has enrol 0 111111; survey > 3 01C2; 12 > 1 01C3; 34 > 1 01C4; 56 > halt conflict
+";
 
 #[test]
 fn surveys_enrol_what_is_told(rt: HostRuntime) -> Result<(), Fail> {
-    all_play(&rt, &SURVEYS)
+    all_play(&rt, SURVEYS)
 }
 
-const UNTOLD: [Surveyed<'static>; 5] = [
-    // An address of a gear whose number is not told is not given.
-    (
-        "what was damaged is not given",
-        (0, 0),
-        &[],
-        &[(0x01C2, DAMAGED)],
-        &[],
-        190,
-        &NOTHING_TO_GIVE,
-    ),
-    (
-        "what was cut off is not given",
-        (0, 0),
-        &[],
-        &[(0x01C2, Input::Heard(Answer::Byte(0x12)))],
-        &[],
-        191,
-        &NOTHING_TO_GIVE,
-    ),
-    (
-        "what has drawn no number is not given",
-        (0, 0),
-        &[],
-        &[(0x01C2, YES), (0x01C3, YES), (0x01C4, YES)],
-        &[],
-        192,
-        &NOTHING_TO_GIVE,
-    ),
-    (
-        "a question that is lost is asked again",
-        (0, 3),
-        &[],
-        &[],
-        &[],
-        0,
-        &[&ASKED_AGAIN],
-    ),
-    (
-        "eight lost questions in a row give up",
-        (0, 3),
-        &[],
-        &[],
-        &[],
-        0,
-        &[
-            &[(Input::Survey, Put(3, 0x01C2))],
-            &[(Input::Destroyed, Put(3, 0x01C2)); 7],
-            &[(Input::Destroyed, Done(End::GaveUp))],
-        ],
-    ),
-];
+/// What is not told: an address of a gear whose number is not told is not given.
+const UNTOLD: &str = "
+= what was damaged is not given
+# An address of a gear whose number is not told is not given.
+block 0-0; hears 01C2 damaged; surveys 190; @called; @nobody; - > 3 A100; - > done block-full
+= what was cut off is not given
+block 0-0; hears 01C2 12; surveys 191; @called; @nobody; - > 3 A100; - > done block-full
+= what has drawn no number is not given
+block 0-0; hears 01C2 FF; hears 01C3 FF; hears 01C4 FF; surveys 192; @called; @nobody; - > 3 A100
+- > done block-full
+= a question that is lost is asked again
+survey > 3 01C2; - > 3 01C2; destroyed > 3 01C2; lapsed > 3 01C2; - > 3 01C2; 12 > 1 01C3; destroyed > 3 01C2
+damaged > 3 03C2; start > not-due
+= eight lost questions in a row give up
+survey > 3 01C2; 7 x destroyed > 3 01C2; destroyed > done gave-up
+";
 
 #[test]
 fn surveys_leave_alone_what_is_not_told(rt: HostRuntime) -> Result<(), Fail> {
-    all_play(&rt, &UNTOLD)
+    all_play(&rt, UNTOLD)
 }
 
-/// Whether gear was heard under these addresses.
-fn has_heard<R: Abort>(rt: &R, machine: &Machine, wanted: &[(u8, bool)]) -> Result<(), Fail> {
-    for (address, is_heard) in wanted {
-        same(rt, &machine.heard().has(short(*address)?), is_heard);
-    }
-    Ok(())
-}
-
-/// A gear was there that answered once.
+/// A byte is heard, and then the question is lost and no gear answers any more: a gear was there that answered once.
 #[test]
 fn who_answered_once_was_heard(rt: HostRuntime) -> Result<(), Fail> {
-    let story: Surveyed<'_> = ("heard", (0, 3), &[], &[], &[], 0, &[&ANSWERED_ONCE]);
-    has_heard(&rt, &played(&rt, &story)?, &[(0, true), (1, false)])
-}
-
-/// What a machine does for which 0 is reserved for the gear at 000000, which has no short address: its block, what its
-/// survey hears, how many orders that has, and what it is told when it has found the gear.
-type Reserved<'a> = ((u8, u8), &'a [Heard], u32, &'a [&'a [Moment]]);
-
-fn gives<R: Abort>(rt: &R, reserved: &Reserved<'_>) -> Result<(), Fail> {
-    let (block, heard, orders, parts) = *reserved;
-    let records = [Reserve(0, 0x000000)];
-    let story: Surveyed<'_> = ("reserved", block, &records, heard, &[], orders, &[&CALLED]);
-    let mut machine = played(rt, &story)?;
-    searches(rt, &mut machine, YES, HUNTED);
-    goes_on(rt, "found", &mut machine, &[&FOUND]);
-    goes_on(rt, "found", &mut machine, parts);
+    let mut told = Told::new(rt.alloc())?;
+    let heard =
+        "survey > 3 01C2; 12 > 1 01C3; destroyed > 3 01C2; - > 3 01C2; - > 3 01C2; - > 3 03C2";
+    told.plays(&rt, "heard", heard)?;
+    same(&rt, &told.machine.heard().has(short(0)?), &true);
+    same(&rt, &told.machine.heard().has(short(1)?), &false);
     Ok(())
 }
 
-const RESERVED: [Reserved<'static>; 3] = [
-    ((0, 1), &[], 192, &[&[(YES, Put(1, 0xB701))]]),
-    (
-        (0, 1),
-        &[(0x01C2, DAMAGED)],
-        190,
-        &[&[(YES, Put(3, 0xA100))], &OPENED],
-    ),
-    (
-        (0, 0),
-        &[(0x01C2, DAMAGED)],
-        190,
-        &[&[(YES, Put(3, 0xA100)), (SILENCE, Done(End::BlockFull))]],
-    ),
-];
+/// 0 is reserved for the gear at 000000, which has no short address, and the machine has found it.
+const RESERVED: &str = "
+= the own address is given
+block 0-1; has reserve 0 000000; surveys 192; @called; searches FF 69; @found; FF > 1 B701
+= another address is given
+block 0-1; has reserve 0 000000; hears 01C2 damaged; surveys 190; @called; searches FF 69; @found; FF > 3 A100
+@opened
+= no address is left to give
+block 0-0; has reserve 0 000000; hears 01C2 damaged; surveys 190; @called; searches FF 69; @found; FF > 3 A100
+- > done block-full
+";
 
 #[test]
 fn an_address_of_somebody_else_is_not_given_by_a_reservation(rt: HostRuntime) -> Result<(), Fail> {
-    for reserved in RESERVED {
-        gives(&rt, &reserved)?;
-    }
-    Ok(())
+    all_play(&rt, RESERVED)
 }
 
-/// A hunt after a roll call: what the machine is told first, how many frames it sends then, while each COMPARE
-/// is answered YES; and what it is told then and orders. Another part may follow.
-type Hunt<'a> = (&'a str, &'a [(Input, u32, &'a [Moment])]);
-
-fn hunts<R: Abort>(rt: &R, hunt: &Hunt<'_>) -> Result<(), Fail> {
-    let (name, parts) = *hunt;
-    let story: Surveyed<'_> = (name, (0, 3), &[], &[], &[], 192, &[&CALLED]);
-    let mut machine = played(rt, &story)?;
-    for (told, frames, moments) in parts {
-        searches(rt, &mut machine, *told, *frames);
-        goes_on(rt, name, &mut machine, &[*moments]);
-    }
-    Ok(())
-}
-
-/// FFFFFE and 7FFFFF are in one transaction, which then has room for one frame more, and the next question needs two.
-/// A damaged answer is a yes.
-const ASKS_ON: [Moment; 16] = [
-    (YES, Put(1, 0xB17F)),
-    (SILENCE, Put(1, 0xB5FF)),
-    (SILENCE, Put(1, 0xA900)),
-    (YES, Put(3, 0xB13F)),
-    (SILENCE, Put(1, 0xB5FF)),
-    (SILENCE, Put(1, 0xB3FF)),
-    (SILENCE, Put(1, 0xA900)),
-    // No gear is up to 3FFFFF, some is up to 5FFFFF, and none up to 4FFFFF.
-    (SILENCE, Put(1, 0xB15F)),
-    (SILENCE, Put(1, 0xA900)),
-    (DAMAGED, Put(1, 0xB14F)),
-    (SILENCE, Put(1, 0xA900)),
-    // The transaction is full.
-    (SILENCE, Put(3, 0xB157)),
-    (SILENCE, Put(1, 0xB5FF)),
-    (SILENCE, Put(1, 0xB3FF)),
-    (SILENCE, Put(1, 0xA900)),
-    (Input::Survey, NotDue),
-];
-
-/// No gear is up to 00FFFF: two bytes change, the high one is sent before the middle one.
-const HIGH_AND_MIDDLE: [Moment; 3] = [
-    (SILENCE, Put(1, 0xB101)),
-    (SILENCE, Put(1, 0xB37F)),
-    (SILENCE, Put(1, 0xA900)),
-];
-
-/// Some gear is up to 0101FF, and none up to 0100FF: the low byte is sent before the middle one.
-const LOW_AND_MIDDLE: [Moment; 7] = [
-    (SILENCE, Put(1, 0xB57F)),
-    (SILENCE, Put(1, 0xB301)),
-    (SILENCE, Put(1, 0xA900)),
-    (YES, Put(3, 0xB101)),
-    (SILENCE, Put(1, 0xB53F)),
-    (SILENCE, Put(1, 0xB301)),
-    (SILENCE, Put(1, 0xA900)),
-];
-
-/// A frame is lost: the question that it was for begins again, in a new transaction, and so does the next one that is
-/// lost. What was answered stays.
-const ASKED_ANEW: [Moment; 11] = [
-    (YES, Put(1, 0xB17F)),
-    (Input::Lapsed, Put(3, 0xB17F)),
-    (SILENCE, Put(1, 0xB5FF)),
-    (Input::Destroyed, Put(3, 0xB17F)),
-    (SILENCE, Put(1, 0xB5FF)),
-    (SILENCE, Put(1, 0xB3FF)),
-    (SILENCE, Put(1, 0xA900)),
-    (Input::Destroyed, Put(3, 0xB17F)),
-    (SILENCE, Put(1, 0xB5FF)),
-    (SILENCE, Put(1, 0xB3FF)),
-    (SILENCE, Put(1, 0xA900)),
-];
-
-/// After it there is room for four frames.
-const ASKED_ON: [Moment; 3] = [
-    (YES, Put(1, 0xB13F)),
-    (SILENCE, Put(1, 0xA900)),
-    (YES, Put(1, 0xB11F)),
-];
-
-/// The gear at 000000 has short address 0. The search goes on above it, with a step up to 000001, finds gear there,
-/// and the visit hears nothing.
-const HUNTED_ON: [Moment; 14] = [
-    (YES, Put(3, 0xB100)),
-    (SILENCE, Put(1, 0xB300)),
-    (SILENCE, Put(1, 0xB500)),
-    (SILENCE, Put(1, 0xBB00)),
-    (Input::Heard(Answer::Byte(0x01)), Put(1, 0xAB00)),
-    (SILENCE, Commit(Enrol(0, 0x000000))),
-    (Input::Committed, Put(3, 0xB100)),
-    (SILENCE, Put(1, 0xB501)),
-    (SILENCE, Put(1, 0xB300)),
-    (SILENCE, Put(1, 0xA900)),
-    (YES, Put(3, 0xB100)),
-    (SILENCE, Put(1, 0xB300)),
-    (SILENCE, Put(1, 0xB501)),
-    (SILENCE, Put(1, 0xBB00)),
-];
-
-/// So it begins anew: it asks first whether gear is up to 000000, the greatest number that was found; then one,
-/// two, four and eight numbers further; and then twice under FFFFFE. It had found gear, so the roll is called.
-const BEGUN_ANEW: [Moment; 20] = [
-    (SILENCE, Put(3, 0xB100)),
-    (SILENCE, Put(1, 0xB500)),
-    (SILENCE, Put(1, 0xB300)),
-    (SILENCE, Put(1, 0xA900)),
-    (SILENCE, Put(1, 0xB501)),
-    (SILENCE, Put(1, 0xA900)),
-    (SILENCE, Put(1, 0xB503)),
-    (SILENCE, Put(1, 0xA900)),
-    (SILENCE, Put(3, 0xB100)),
-    (SILENCE, Put(1, 0xB507)),
-    (SILENCE, Put(1, 0xB300)),
-    (SILENCE, Put(1, 0xA900)),
-    (SILENCE, Put(1, 0xB50F)),
-    (SILENCE, Put(1, 0xA900)),
-    (SILENCE, Put(3, 0xB1FF)),
-    (SILENCE, Put(1, 0xB5FE)),
-    (SILENCE, Put(1, 0xB3FF)),
-    (SILENCE, Put(1, 0xA900)),
-    (SILENCE, Put(1, 0xA900)),
-    (SILENCE, Put(3, 0xA100)),
-];
-
-/// Before any gear was found it begins anew as it began.
-const FIRST_VISIT: [Moment; 4] = [
-    (SILENCE, Put(3, 0xB1FF)),
-    (SILENCE, Put(1, 0xB5FE)),
-    (SILENCE, Put(1, 0xB3FF)),
-    (SILENCE, Put(1, 0xA900)),
-];
-
-/// The visit of 000000 fails once more: it is passed over, and the search goes on above it.
-const PASSED_OVER: [Moment; 8] = [
-    (SILENCE, Put(3, 0xB100)),
-    (SILENCE, Put(1, 0xB300)),
-    (SILENCE, Put(1, 0xB500)),
-    (SILENCE, Put(1, 0xAB00)),
-    (SILENCE, Put(3, 0xB100)),
-    (SILENCE, Put(1, 0xB501)),
-    (SILENCE, Put(1, 0xB300)),
-    (SILENCE, Put(1, 0xA900)),
-];
-
-/// A no under FFFFFE, and then a yes: who answered can be at FFFFFE alone.
-const NO_AND_YES: [Moment; 6] = [
-    (SILENCE, Put(1, 0xA900)),
-    (YES, Put(3, 0xB1FF)),
-    (SILENCE, Put(1, 0xB3FF)),
-    (SILENCE, Put(1, 0xB5FE)),
-    (SILENCE, Put(1, 0xBB00)),
-    (Input::Survey, NotDue),
-];
-
-const HUNTS: [Hunt<'static>; 7] = [
-    ("asks on", &[(YES, 4, &ASKS_ON)]),
-    (
-        "two bytes change",
-        &[(YES, 27, &HIGH_AND_MIDDLE), (YES, 20, &LOW_AND_MIDDLE)],
-    ),
-    (
-        "a question is lost",
-        &[(YES, 4, &ASKED_ANEW), (YES, 0, &ASKED_ON)],
-    ),
-    (
-        "begun anew",
-        &[(YES, HUNTED, &HUNTED_ON), (SILENCE, 0, &BEGUN_ANEW)],
-    ),
-    (
-        "a first visit that heard nothing",
-        &[(YES, HUNTED, &FOUND), (SILENCE, 0, &FIRST_VISIT)],
-    ),
-    (
-        "passed over",
-        &[
-            (YES, HUNTED, &FOUND),
-            (SILENCE, 0, &FIRST_VISIT),
-            (YES, HUNTED - 4, &FOUND),
-            (SILENCE, 0, &PASSED_OVER),
-        ],
-    ),
-    ("a no and a yes", &[(YES, 4, &NO_AND_YES)]),
-];
+/// Hunts after a roll call. While frames are searched each COMPARE is answered YES.
+const HUNTS: &str = "
+= asks on
+surveys 192; @called; searches FF 4
+# FFFFFE and 7FFFFF are in one transaction, which then has room for one frame more, and the next question needs
+# two. A damaged answer is a yes: no gear is up to 3FFFFF, some is up to 5FFFFF, and none up to 4FFFFF. Then the
+# transaction is full.
+FF > 1 B17F; - > 1 B5FF; - > 1 A900; FF > 3 B13F; - > 1 B5FF; - > 1 B3FF; - > 1 A900; - > 1 B15F; - > 1 A900
+damaged > 1 B14F; - > 1 A900; - > 3 B157; - > 1 B5FF; - > 1 B3FF; - > 1 A900; survey > not-due
+= two bytes change
+surveys 192; @called; searches FF 27
+# No gear is up to 00FFFF: two bytes change, the high one is sent before the middle one.
+- > 1 B101; - > 1 B37F; - > 1 A900
+searches FF 20
+# Some gear is up to 0101FF, and none up to 0100FF: the low byte is sent before the middle one.
+- > 1 B57F; - > 1 B301; - > 1 A900; FF > 3 B101; - > 1 B53F; - > 1 B301; - > 1 A900
+= a question is lost
+surveys 192; @called; searches FF 4
+# A frame is lost: the question that it was for begins again, in a new transaction, and so does the next one that
+# is lost. What was answered stays.
+FF > 1 B17F; lapsed > 3 B17F; - > 1 B5FF; destroyed > 3 B17F; - > 1 B5FF; - > 1 B3FF; - > 1 A900
+destroyed > 3 B17F; - > 1 B5FF; - > 1 B3FF; - > 1 A900
+# After it there is room for four frames.
+FF > 1 B13F; - > 1 A900; FF > 1 B11F
+= begun anew
+surveys 192; @called; searches FF 69
+# The gear at 000000 has short address 0. The search goes on above it, with a step up to 000001, finds gear there,
+# and the visit hears nothing.
+FF > 3 B100; - > 1 B300; - > 1 B500; - > 1 BB00; 01 > 1 AB00; - > enrol 0 000000; committed > 3 B100; - > 1 B501
+- > 1 B300; - > 1 A900; FF > 3 B100; - > 1 B300; - > 1 B501; - > 1 BB00
+# So it begins anew: it asks first whether gear is up to 000000, the greatest number that was found; then one,
+# two, four and eight numbers further; and then twice under FFFFFE. It had found gear, so the roll is called.
+- > 3 B100; - > 1 B500; - > 1 B300; - > 1 A900; - > 1 B501; - > 1 A900; - > 1 B503; - > 1 A900; - > 3 B100
+- > 1 B507; - > 1 B300; - > 1 A900; - > 1 B50F; - > 1 A900; - > 3 B1FF; - > 1 B5FE; - > 1 B3FF; - > 1 A900
+- > 1 A900; - > 3 A100
+= a first visit that heard nothing
+surveys 192; @called; searches FF 69; @found
+# Before any gear was found it begins anew as it began.
+- > 3 B1FF; - > 1 B5FE; - > 1 B3FF; - > 1 A900
+= passed over
+surveys 192; @called; searches FF 69; @found
+# Before any gear was found it begins anew as it began.
+- > 3 B1FF; - > 1 B5FE; - > 1 B3FF; - > 1 A900
+searches FF 65; @found
+# The visit of 000000 fails once more: it is passed over, and the search goes on above it.
+- > 3 B100; - > 1 B300; - > 1 B500; - > 1 AB00; - > 3 B100; - > 1 B501; - > 1 B300; - > 1 A900
+= a no and a yes
+surveys 192; @called; searches FF 4
+# A no under FFFFFE, and then a yes: who answered can be at FFFFFE alone.
+- > 1 A900; FF > 3 B1FF; - > 1 B3FF; - > 1 B5FE; - > 1 BB00; survey > not-due
+";
 
 #[test]
 fn hunts_ask_one_question_after_the_other(rt: HostRuntime) -> Result<(), Fail> {
-    for hunt in HUNTS {
-        hunts(&rt, &hunt)?;
-    }
-    Ok(())
+    all_play(&rt, HUNTS)
 }
 
 /// Each COMPARE is heard, and no gear tells a short address. A search that begins anew ends at 000000; the second visit

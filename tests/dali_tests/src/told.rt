@@ -2,7 +2,7 @@
 //! address.
 
 use super::gear::{INITIALISE, hear};
-use super::machine::{DAMAGED, machine_of};
+use super::moments::{DAMAGED, machine_of};
 use super::values::InNumbers::Reserve;
 use super::values::{bytes_of, random, same};
 use dali_controller::Machine;
