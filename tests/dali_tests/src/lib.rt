@@ -38,6 +38,8 @@ mod plan;
 #[cfg(test)]
 mod records;
 #[cfg(test)]
+mod replay;
+#[cfg(test)]
 mod ring;
 #[cfg(test)]
 mod rounds;

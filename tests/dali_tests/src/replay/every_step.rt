@@ -1,7 +1,7 @@
 //! The commissioning of one gear by a start and by a survey, disturbed once, at each of its steps: each time it ends,
 //! once, and the table names the gear by the address that it has, or is empty.
 
-use super::story::played;
+use super::played;
 use std::process::Abort;
 use std::test::Fail;
 

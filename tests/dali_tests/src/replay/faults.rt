@@ -1,6 +1,6 @@
 //! Faults: their texts and statuses, and readers and writers that fail.
 
-use super::story::{bytes_end, played};
+use super::{bytes_end, played};
 use dali_replay::{ReplayFault, run_replay};
 use dali_world::PlanError;
 use std::alloc::Global;
