@@ -199,8 +199,12 @@ event_until p now = event_in p.phase p now
 -- AN EDGE. While a frame of the port is on the bus, an edge to another level than the one that is
 -- driven destroys it: the bus follows what is driven, and never leads. In the window an edge is
 -- heard; else it is read, and ends the transaction: a later frame that waits lapses.
-abbrev pub lapses : Order → Phase
-lapses order = if is_later order then Free else Waiting order
+abbrev pub lapsed : Phase → Phase
+lapsed Free = Free
+lapsed (Waiting order) = if is_later order then Free else Waiting order
+lapsed (Sending s) = Sending s
+lapsed (Breaking since) = Breaking since
+lapsed (Listening l) = Listening l
 
 abbrev pub lapsed_word : Phase → Option Word
 lapsed_word Free = None
@@ -215,7 +219,7 @@ edge_in Free p low now =
 edge_in (Waiting order) p low now = record p {
   receiver = receiver_after p.receiver low (since_edge p now);
   is_over = true;
-  phase = lapses order;
+  phase = lapsed (Waiting order);
 }
 edge_in (Sending s) p low now =
     if same (driven_in s) low then p else broken_at p s.order.frame now
@@ -249,7 +253,8 @@ lost_window w low since = record {
 
 abbrev pub lost_in : Phase → Port → Bool → ℕ → Port
 lost_in Free p low now = record p { receiver = spoilt low }
-lost_in (Waiting order) p low now = record p { receiver = spoilt low; phase = lapses order }
+lost_in (Waiting order) p low now =
+    record p { receiver = spoilt low; phase = lapsed (Waiting order) }
 lost_in (Sending s) p low now = broken_at p s.order.frame now
 lost_in (Breaking since) p low now = p
 lost_in (Listening l) p low now = record p {

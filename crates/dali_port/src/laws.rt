@@ -13,26 +13,23 @@ ghost use Rattle.dali_port.specs.Runs.{HasOneWord, BeginsBy, marks_of, marks_aft
 ghost use Rattle.dali_port.specs.Stretches.{seen_by_all, Follows, IsWhole, TellsHeard, is_listening};
 ghost use Rattle.dali_port.specs.Bounds.{IsAtRest, AreInTime, ends_by};
 
-/// Each frame that is handed in ends with exactly one word, and no word comes of no frame: in each call, and over
-/// any run, but for the frame that is under way.
+/// Each frame ends with exactly one word, and no word comes of no frame: in each call, and over any run.
 pub fn each_frame_has_one_word()
     ensures call { (p : Port) (c : Call) → HasOneWord p c }
     ensures run { (p : Port) (calls : List Call)
         → words p calls + under_way (after_all p calls) ≡ frames p calls + under_way p }
 {}
 
-/// Over any run from rest on a frame that waits has exactly one word once its bound in µs is past. The timer is called
-/// in time, no edge comes before the frame begins, none is lost, and no further frame is taken. Others may send at any
-/// time after it began.
+/// From rest on a frame that waits has one word once its bound in µs is past, if the timer is called in time, no edge
+/// comes before the frame begins, and none is lost. Others may send at any time after it began.
 pub fn each_frame_ends_in_time()
     ensures { (p : Port) (order : Order) (late : ℕ) (calls : List Call) → p.phase ≡ Waiting order → IsAtRest p
         → AreInTime late p calls → frames p calls ≡ 0 → ends_by p order late < (after_all p calls).called
         → words p calls ≡ 1 }
 {}
 
-/// Silence, a byte or damaged is told of a frame that was sent whole, and of no other; and it is whole only if from its
-/// first edge to the end of its stop condition the level of the bus never differed for longer than the bound from the
-/// one that was driven.
+/// What was heard is told of frames alone that were sent whole: from the first edge to the end of the stop condition
+/// the bus never differed for longer than the bound from the level that was driven.
 pub fn what_is_whole_was_compared()
     ensures heard { (p : Port) (c : Call) → TellsHeard (told_by p c) → is_listening p.phase ≡ true }
     ensures whole { (p : Port) (order : Order) (calls : List Call) → p.phase ≡ Sending (begun_at order p.called)

@@ -7,14 +7,11 @@ ghost use Rattle.dali_port.specs.Orders.{refusal_of};
 use dali_frame::{Answer, Forward, Priority};
 use thiserror::Error;
 
-/// Which frame of a pair a frame is: two equal frames, sent within 100 ms.
+/// Which frame of a pair a frame is: of two equal frames within 100 ms. `Whole` is sent once.
 #[derive(Clone, Copy, Debug, PartialEq, Eq)]
 pub enum Half {
-    /// A frame that is sent once.
     Whole,
-    /// The first of two equal frames.
     First,
-    /// The second one.
     Second,
 }
 

@@ -2,14 +2,13 @@
 
 ghost use Rattle.std.specs.Prelude.{◌≡◌, ◌^◌, ◌-◌, min, true, None, IsErr};
 ghost use Rattle.dali_port.specs.State.{seen, order_of, sent_of, after_of, window_of};
-ghost use Rattle.dali_port.specs.Ports.{since_edge, noted, rested, rest_event, only, broken_at, whole_at};
-ghost use Rattle.dali_port.specs.Ports.{listened, listened_word, until, event_until, edge_in, edged, lapsed_word};
-ghost use Rattle.dali_port.specs.Ports.{lost_in, lost, with_level};
 ghost use Rattle.dali_wire.specs.Reception.{receiver_after};
-ghost use Rattle.dali_port.specs.Calls.{timed, timed_word, also, answered, taken, taken_word, drive_of};
-ghost use Rattle.dali_port.specs.Calls.{window_due, begins_at, rest_due};
-ghost use Rattle.dali_port.specs.Calls.{timer_after, timer_told, edge_after, edge_told, lost_after, lost_told};
-ghost use Rattle.dali_port.specs.Calls.{refused, send_after, send_told};
+ghost use Rattle.dali_port.specs.Ports.{since_edge, noted, rested, rest_event, only, broken_at, whole_at, listened};
+ghost use Rattle.dali_port.specs.Ports.{listened_word, until, event_until, edge_in, lapsed, lapsed_word, lost_in};
+ghost use Rattle.dali_port.specs.Ports.{edged, lost, with_level};
+ghost use Rattle.dali_port.specs.Calls.{timed, timed_word, also, answered, taken, taken_word, drive_of, window_due};
+ghost use Rattle.dali_port.specs.Calls.{begins_at, rest_due, timer_after, timer_told, edge_after, edge_told};
+ghost use Rattle.dali_port.specs.Calls.{lost_after, lost_told, send_after, send_told};
 
 use crate::frames::{HALF_BIT, level};
 use crate::orders::{Half, Order, Refusal, Word, rest_of};
@@ -17,19 +16,16 @@ use crate::state::{BREAKING, Drive, Event, FREE, LISTENING, Port, Read, SENDING,
 use dali_frame::{Answer, Forward};
 use dali_wire::{Frame, Receiver};
 
-/// How long a break takes, in µs (IEC 62386-101:2014, collision recovery).
+/// The times of `specs/Times`, in µs.
 const BREAK: u64 = 1_300;
 
-/// How long a pair takes at most, in µs (IEC 62386-101:2014, send-twice forward frames).
 const PAIR: u64 = 100_000;
 
-/// How long after the beginning of the first frame of a pair the second one begins at most: it has 17 bits.
+/// The second frame of a pair begins so long after the first one at most: it has 17 bits.
 const SECOND: u64 = PAIR - 34 * HALF_BIT;
 
-/// How long gear draw after a pair of RANDOMISE, in µs (IEC 62386-102:2014, RANDOMISE).
 const DRAW: u64 = 100_000;
 
-/// After how long a bus that is low has no power, in µs.
 const POWER: u64 = 500_000;
 
 /// When a receiver and a window are to be asked, in µs (`dali_wire`).
@@ -52,12 +48,6 @@ const NOTHING: Event = Event {
 };
 
 impl Port {
-    fn since(&self, now: u64) -> u32
-        ensures { result ≡ since_edge (seen self.now) now }
-    {
-        passed(self.edge, now)
-    }
-
     /// A frame that gear may have taken ended at this time.
     fn note(&mut self, frame: Forward, at: u64)
         ensures { seen self.new ≡ noted (seen self.old) frame at }
@@ -89,7 +79,7 @@ impl Port {
             self.phase = FREE;
             return;
         }
-        let since = self.since(now);
+        let since = passed(self.edge, now);
         if self.was_low != 0 || since < STOP || self.reading == 0 {
             return;
         }
@@ -132,7 +122,7 @@ impl Port {
         ensures told { event.new ≡ only (listened_word (seen self.old) (after_of self.old) now) }
         ensures port { seen self.new ≡ listened (seen self.old) (after_of self.old) now }
     {
-        let since = self.since(now);
+        let since = passed(self.edge, now);
         let elapsed = self.elapsed.saturating_add(since);
         let is_over = elapsed >= WINDOW && (self.reading == 0 || elapsed >= GIVEN_UP);
         self.phase = LISTENING;
@@ -185,11 +175,14 @@ impl Port {
         }
     }
 
-    /// A later frame that waits lapses once others sent.
-    fn lapse(&self, event: &mut Event)
-        ensures { event.new ≡ also event.old (lapsed_word (seen self.now).phase) }
+    /// Others sent, or may have: the transaction is over, and a later frame that waits lapses.
+    fn lapse(&mut self, event: &mut Event)
+        ensures told { event.new ≡ also event.old (lapsed_word (seen self.old).phase) }
+        ensures port { seen self.new ≡ record (seen self.old) { is_over = true; phase = lapsed (seen self.old).phase } }
     {
+        self.is_over = 1;
         if self.phase == WAITING && self.priority == 1 {
+            self.phase = FREE;
             event.word = Some(Word::Lapsed);
         }
     }
@@ -200,13 +193,14 @@ impl Port {
         } }
     {
         let mut receiver = self.receiver();
-        receiver.edge(is_low, self.since(now));
+        receiver.edge(is_low, passed(self.edge, now));
         self.set_receiver(&receiver);
     }
 
     /// An edge to another level, before it is the level of the bus.
-    fn turn_in(&mut self, is_low: bool, now: u64)
-        ensures { seen self.new ≡ edge_in (seen self.old).phase (seen self.old) is_low now }
+    fn turn_in(&mut self, is_low: bool, now: u64, event: &mut Event)
+        ensures told { event.new ≡ also event.old (lapsed_word (seen self.old).phase) }
+        ensures port { seen self.new ≡ edge_in (seen self.old).phase (seen self.old) is_low now }
     {
         match self.phase {
             FREE => {
@@ -214,13 +208,8 @@ impl Port {
                 self.read_edge(is_low, now);
             }
             WAITING => {
-                self.is_over = 1;
-                if self.priority == 1 {
-                    self.phase = FREE;
-                    self.read_edge(is_low, now);
-                } else {
-                    self.read_edge(is_low, now);
-                }
+                self.lapse(event);
+                self.read_edge(is_low, now);
             }
             SENDING => {
                 if level(self.frame(), self.at_half) != is_low {
@@ -230,7 +219,7 @@ impl Port {
             BREAKING => {}
             _ => {
                 let mut window = self.window();
-                window.edge(is_low, self.since(now));
+                window.edge(is_low, passed(self.edge, now));
                 self.set_window(&window);
             }
         }
@@ -240,31 +229,28 @@ impl Port {
         ensures told { event.new ≡ also event.old (lapsed_word (seen self.old).phase) }
         ensures port { seen self.new ≡ edged (seen self.old) is_low now }
     {
-        self.lapse(event);
-        self.turn_in(is_low, now);
+        self.turn_in(is_low, now, event);
         self.set_level(is_low, now);
     }
 
     /// An edge may have been lost, before the level of the bus is known.
-    fn lose_in(&mut self, is_low: bool, now: u64)
-        ensures { seen self.new ≡ record (lost_in (seen self.old).phase (seen self.old) is_low now) { is_over = true } }
+    fn lose_in(&mut self, is_low: bool, now: u64, event: &mut Event)
+        ensures told { event.new ≡ also event.old (lapsed_word (seen self.old).phase) }
+        ensures port { seen self.new
+            ≡ record (lost_in (seen self.old).phase (seen self.old) is_low now) { is_over = true } }
     {
         self.is_over = 1;
         match self.phase {
             FREE => self.spoil(is_low),
             WAITING => {
-                if self.priority == 1 {
-                    self.phase = FREE;
-                    self.spoil(is_low);
-                } else {
-                    self.spoil(is_low);
-                }
+                self.lapse(event);
+                self.spoil(is_low);
             }
             SENDING => self.destroy(now),
             BREAKING => {}
             _ => {
                 self.phase = LISTENING;
-                self.elapsed = self.elapsed.saturating_add(self.since(now));
+                self.elapsed = self.elapsed.saturating_add(passed(self.edge, now));
                 self.heard = 2;
                 self.has_pulse = 1;
                 self.spoil(is_low);
@@ -276,8 +262,7 @@ impl Port {
         ensures told { event.new ≡ also event.old (lapsed_word (seen self.old).phase) }
         ensures port { seen self.new ≡ lost (seen self.old) is_low now }
     {
-        self.lapse(event);
-        self.lose_in(is_low, now);
+        self.lose_in(is_low, now, event);
         self.set_level(is_low, now);
     }
 
@@ -380,25 +365,19 @@ impl Port {
         Ok(())
     }
 
-    fn refusal(&self, order: &Order, now: u64) -> Option<Refusal>
-        ensures { result ≡ refused (seen self.now) order.now now }
-    {
-        if now < self.called {
-            Some(Refusal::Backwards)
-        } else if self.phase == FREE {
-            order.refusal()
-        } else {
-            Some(Refusal::Busy)
-        }
-    }
-
     /// A frame is handed in.
     pub fn send(&mut self, order: &Order, now: u64, event: &mut Event) -> Result<(), Refusal>
         ensures told { answered result event.new ≡ send_told (seen self.old) order.now now }
         ensures port { seen self.new ≡ send_after (seen self.old) order.now now }
         ensures refused { IsErr result → (self.new ≡ self.old) × (event.new ≡ event.old) }
     {
-        if let Some(refusal) = self.refusal(order, now) {
+        if now < self.called {
+            return Err(Refusal::Backwards);
+        }
+        if self.phase != FREE {
+            return Err(Refusal::Busy);
+        }
+        if let Some(refusal) = order.refusal() {
             return Err(refusal);
         }
         *event = NOTHING;
