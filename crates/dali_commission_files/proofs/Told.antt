@@ -1,4 +1,6 @@
 use Rattle.std.proofs.Common.{◌≡◌, inl, inr, refl, sym, ap, subst, ◌∙◌, List, [], ◌∷◌, ◌++◌, ℕ, Bor, arith}
+use Rattle.std.proofs.Common.{◌≤◌, ◌-◌, length, take, drop, OnOk}
+use Rattle.std.proofs.{Math.ListN.get_or, lemmas.List.take_all}
 use Rattle.std.proofs.Common.{Bool, false, IsTrue, ◌↔◌}
 use Rattle.std.proofs.Common.{Result, Ok, Err, IfErr, IsErr, Option, Some, None, IfSome}
 use Rattle.std.proofs.lemmas.List.{map-append}
@@ -61,14 +63,34 @@ pub not_both : {T E : Type 0} (r : Result T E) (it : T) (error : E) → r ≡ Ok
 not_both r it error ok err = subst IsFine (sym ok ∙ err) tt
 
 -- records that were read are those of a look that shows them
-module _ {F : Type 0} (saw : F → Look → Type 0) (at : F) (so : (name : List ℕ) (kept : Kept) → saw at (Read name kept)) where
-  read_so : (names : List (String Global)) (before after : List Kept) → AreRead {F = Unit {0}} (λ _ _. Unit {0}) tt names before after
-      → AreRead saw at names before after
+module _ {F G : Type 0} (saw : F → Look → Type 0) (at : F) (seen : G → Look → Type 0) (x : G)
+    (so : (name : List ℕ) (kept : Kept) → seen x (Read name kept) → saw at (Read name kept)) where
+  read_so : (names : List (String Global)) (before after : List Kept) → AreRead seen x names before after → AreRead saw at names before after
   read_so [] before after read = read
-  read_so (name ∷ names) before after (kept, _, read) = (kept, so (string_bytes name) kept, read_so names (before ++ kept ∷ []) after read)
+  read_so (name ∷ names) before after (kept, one, read) = (kept, so (string_bytes name) kept one, read_so names (before ++ kept ∷ []) after read)
 
-  pub read_held : (names : List (String Global)) (before after all : List Kept) → before ≡ [] → all ≡ after
-      → AreRead {F = Unit {0}} (λ _ _. Unit {0}) tt names before after → AreRead saw at names [] all
+  pub read_held : (names : List (String Global)) (before after all : List Kept) → before ≡ [] → all ≡ after → AreRead seen x names before after
+      → AreRead saw at names [] all
   read_held names before after all none is read =
       subst (λ (kept : List Kept). AreRead saw at names [] kept) (sym is)
       (subst (λ (kept : List Kept). AreRead saw at names kept after) none (read_so names before after read))
+
+-- a first name and the others
+pub split : (all : List (String Global)) (name : String Global) → name ≡ get_or all 0 name → 1 ≤ length all
+    → all ≡ name ∷ take (length all - 1) (drop 1 all)
+split [] name is some = absurd (omega (arith, some))
+split (x ∷ more) name is some =
+    ap (λ n. n ∷ more) (sym is) ∙ ap (λ l. name ∷ l) (sym (take_all (length (x ∷ more) - 1) more (omega arith)))
+
+-- the records of a first name were read, and then those of the others
+pub one_read : {F E : Type 0} (saw : F → Look → Type 0) (x : F) (name : String Global) (bytes : List ℕ) (all more : List (String Global))
+    (before mid after : List Kept) (r : Result (Unit {0}) E) → all ≡ name ∷ more → bytes ≡ string_bytes name
+    → (k : Kept) × (mid ≡ before ++ k ∷ []) × saw x (Read bytes k) → OnOk r (AreRead saw x more mid after)
+    → OnOk r (AreRead saw x all before after)
+one_read saw x name bytes all more before mid after (Ok done) begins is (k, added, seen) rest =
+    subst (λ (l : List (String Global)). AreRead saw x l before after) (sym begins) (
+      k,
+      subst (λ (b : List ℕ). saw x (Read b k)) is seen,
+      subst (λ (l : List Kept). AreRead saw x more l after) added rest,
+    )
+one_read saw x name bytes all more before mid after (Err e) begins is read rest = tt

@@ -3,15 +3,18 @@
 ghost use Rattle.std.specs.Prelude.{◌≡◌, ◌++◌, ◌↔◌, ◌⊎◌, ℕ, List, [], ◌∷◌, codes, string_bytes};
 ghost use Rattle.std.specs.Prelude.{Ok, Err, IfOk, IfErr, OnOk, IfSome, None, true, IsTrue};
 ghost use Rattle.std.specs.IoError.{error_kind, raw_os_error};
-ghost use Rattle.sqlite.specs.Files.{over_files};
+ghost use Rattle.sqlite.specs.Closing.{HoldsAlone};
+ghost use Rattle.sqlite.specs.Files.{image_of};
 ghost use Rattle.sqlite.specs.Held.{state, IsNew};
 ghost use Rattle.sqlite.specs.Recovery.{Image};
+ghost use Rattle.sqlite.specs.Tree.{Trees};
+ghost use Rattle.sqlite.specs.WalReads.{AreClean};
 ghost use Rattle.dali_script.specs.declared.records.Record.{Record};
 ghost use Rattle.dali_reserve.specs.Store.{IsReplay};
-ghost use Rattle.dali_sqlite.specs.Files.{HoldRecords};
 ghost use Rattle.dali_sqlite.specs.Header.{may_be_records};
-ghost use Rattle.dali_sqlite.specs.Keep.{block_of, shown_by, IsSound};
+ghost use Rattle.dali_sqlite.specs.Keep.{block_of, shown_by};
 ghost use Rattle.dali_sqlite.specs.Stored.{Holds, IsUp};
+ghost use Rattle.dali_commission_stores.specs.Calls.{Read};
 ghost use Rattle.dali_commission_stores.specs.Lent.{AreRead};
 ghost use Rattle.dali_commission_files.specs.Logs.{IsDamaged};
 ghost use Rattle.dali_commission_files.specs.Faults.{system_fault, or_number, copy_fault, closed_fault};
@@ -31,6 +34,7 @@ use dali_reserve::{Keep, KeepError};
 use dali_script::{Block, Kept};
 use dali_sqlite::{CopyError, SqliteKeep, open_copy};
 use sqlite::{Alter, Connection, Error, ErrorCode, File, FileStore, Options, Unknown};
+use sqlite_disk::Disk;
 use sqlite_std_file::OpenError;
 use std::alloc::Global;
 use std::fs::TryLockError;
@@ -117,9 +121,9 @@ fn bytes(rt: &HostRuntime, name: &str) -> Result<Vec<u8>, StoreFault>
 
 /// What lies in the two files of a database.
 #[derive(Drop)]
-struct Lying {
-    db: Vec<u8>,
-    log: Vec<u8>,
+pub struct Lying {
+    pub db: Vec<u8>,
+    pub log: Vec<u8>,
 }
 
 /// The name of the log of a database: it lies beside the file itself, if a link leads to that.
@@ -154,7 +158,7 @@ impl Lying {
 }
 
 /// What lies in two files at one moment: they are read until two readings agree, since another program may write them.
-fn at_one_moment(rt: &HostRuntime, name: &str) -> Result<Lying, StoreFault>
+pub(crate) fn at_one_moment(rt: &HostRuntime, name: &str) -> Result<Lying, StoreFault>
     ensures { IfErr result (λ it. IsUnread it ⊎ (it ≡ StoreFault.Locked)) }
 {
     let mut before = Lying::read(rt, name)?;
@@ -169,22 +173,21 @@ fn at_one_moment(rt: &HostRuntime, name: &str) -> Result<Lying, StoreFault>
 }
 
 /// A store over a copy of the files, in memory.
-fn copied(
-    rt: &HostRuntime,
+fn copied<B: Databases>(
+    alloc: Global,
+    databases: &B,
     name: &str,
 ) -> Result<SqliteKeep<FileStore<sqlite_disk::Memory>>, StoreFault>
-    ensures copy { IfOk result (λ store. (db : List ℕ) × (log : List ℕ) × (IsDamaged log → ⊥)
-        × (may_be_records db log ≡ true) × (IsUp (shown_by over_files store) → (xs : List Record)
-        → HoldRecords (record { log = log; db = db }) xs
-        → IsSound over_files store × Holds (shown_by over_files store) xs)) }
+    ensures copy { IfOk result (λ store. (image : Image) × B.lies databases.now name.now image
+        × (IsDamaged image.log → ⊥) × (may_be_records image.db image.log ≡ true) × IsStoreOf image store) }
     ensures all { IfOk result (λ store. ((block_of store).first ≡ 0) × ((block_of store).last ≡ 63)) }
     ensures refused { IfErr result IsUncopied }
 {
-    let lying = at_one_moment(rt, name)?;
+    let lying = databases.lying(name)?;
     if is_damaged(&lying.log) {
         return Err(StoreFault::DamagedLog);
     }
-    match open_copy(rt.alloc(), &lying.db, &lying.log, Block::ALL) {
+    match open_copy(alloc, &lying.db, &lying.log, Block::ALL) {
         Ok(store) => Ok(store),
         Err(error) => Err(copy_fault(error)),
     }
@@ -273,10 +276,11 @@ pub(crate) fn opened(
     }
 }
 
-/// What the records in a database are, and the database.
-fn noted<S: Alter + Drop>(conn: Connection<S>) -> Result<(Connection<S>, Kept), StoreFault>
-    ensures kept { IfOk result (λ came. IsUp (state S.Store came.0) → (xs : List Record)
-        → Holds (state S.Store conn) xs → Holds (state S.Store came.0) xs × IsReplay came.1.block xs came.1) }
+/// What the records in a database are, and a store over it.
+fn noted<S: Alter + Drop>(conn: Connection<S>) -> Result<(SqliteKeep<S>, Kept), StoreFault>
+    ensures kept { IfOk result (λ came. IsUp (shown_by S.Store came.0) → (xs : List Record)
+        → Holds (state S.Store conn) xs → IsReplay came.1.block xs came.1) }
+    ensures up { IfOk result (λ came. IsUp (shown_by S.Store came.0) → IsUp (state S.Store conn)) }
     ensures all { IfOk result (λ came. (came.1.block.first ≡ 0) × (came.1.block.last ≡ 63)) }
     ensures refused { IfErr result IsUnnoted }
 {
@@ -285,9 +289,20 @@ fn noted<S: Alter + Drop>(conn: Connection<S>) -> Result<(Connection<S>, Kept), 
         Err(error) => return Err(StoreFault::Store(error)),
     };
     match store.read() {
-        Ok(kept) => Ok((store.into_connection(), kept)),
+        Ok(kept) => Ok((store, kept)),
         Err(error) => Err(StoreFault::Store(error)),
     }
+}
+
+/// Removes the log of a database whose files are closed: its own file has all that they have.
+fn without_log<D: Disk>(rt: &HostRuntime, name: &str, files: sqlite::Files<D>) -> sqlite::Files<D>
+    requires { AreClean D.Disk files.log files.db → (trees : Trees) × HoldsAlone (image_of D.Disk files) trees }
+    ensures { result ≡ files }
+{
+    if let Ok(log) = log_of(rt, name) {
+        let _ = fs::remove_file(rt, &log);
+    }
+    files
 }
 
 /// Closes a database, and leaves its file alone, which stays locked as long as the files are there: what is in the log
@@ -299,14 +314,10 @@ fn shut(
 ) -> Result<sqlite::Files<File>, StoreFault>
     ensures { IfErr result (λ it. it ≡ StoreFault.Store KeepError.StoreFailed) }
 {
-    let files = match conn.close_files() {
-        Ok(files) => files,
-        Err(_) => return Err(STORE_FAILED),
-    };
-    if let Ok(log) = log_of(rt, name) {
-        let _ = fs::remove_file(rt, &log);
+    match conn.close_files() {
+        Ok(files) => Ok(without_log(rt, name, files)),
+        Err(_) => Err(STORE_FAILED),
     }
-    Ok(files)
 }
 
 /// Adds something to a list.
@@ -321,9 +332,9 @@ fn add<T: Drop>(list: &mut Vec<T>, item: T) -> Result<(), StoreFault>
 }
 
 /// Files of records that are open, each with its name, in the order of these.
-type Open<'a> = Vec<(&'a str, Connection<FileStore<File>>)>;
+type Open<'a> = Vec<(&'a str, FileKeep)>;
 
-fn open_one<'a, B: Databases>(
+fn open_one<'a, B: Folder + Databases>(
     rt: &HostRuntime,
     databases: &B,
     name: &'a str,
@@ -331,7 +342,8 @@ fn open_one<'a, B: Databases>(
     all: &mut Vec<Kept>,
 ) -> Result<(), StoreFault>
     ensures named { OnOk result (names_of held.new.items ≡ names_of held.old.items ++ name.now ∷ []) }
-    ensures kept { OnOk result ((kept : Kept) × (all.new.items ≡ all.old.items ++ kept ∷ [])) }
+    ensures kept { OnOk result ((kept : Kept) × (all.new.items ≡ all.old.items ++ kept ∷ [])
+        × HasSeen B.saw B.lies databases.now (Read name.now kept)) }
     ensures refused { IfErr result IsUnheld }
 {
     let lying = Lying::read(rt, name)?;
@@ -339,15 +351,16 @@ fn open_one<'a, B: Databases>(
     if lying.db.is_empty() && lying.log.is_empty() {
         return Err(StoreFault::Foreign);
     }
-    let (conn, kept) = noted(databases.open(name)?)?;
-    add(held, (name, conn))?;
+    let conn = databases.open(name)?;
+    let (keep, kept) = noted(conn)?;
+    add(held, (name, FileKeep { keep }))?;
     add(all, kept)?;
     Ok(())
 }
 
 /// Opens files of records, and notes what they have.
 #[tactic(auto, using(std::proofs::lemmas::List::append_assoc))]
-fn open_all<'a, B: Databases, F, D, H: Holder<F, D>>(
+fn open_all<'a, B: Folder + Databases, F, D, H: Holder<F, D>>(
     rt: &HostRuntime,
     databases: &B,
     names: &'a [String],
@@ -355,7 +368,7 @@ fn open_all<'a, B: Databases, F, D, H: Holder<F, D>>(
     held: &mut Open<'a>,
     all: &mut Vec<Kept>,
 ) -> Result<(), Failure>
-    ensures read { OnOk result (AreRead {F = Unit {0}} (λ _ _. Unit {0}) tt names.now all.old.items all.new.items) }
+    ensures read { OnOk result (AreRead (HasSeen B.saw B.lies) databases.now names.now all.old.items all.new.items) }
     ensures refused { IfErr result (λ failure. (it : StoreFault) × IsUnheld it × (failure ≡ Failure.Store it)) }
 {
     let [name, more @ ..] = names else {
@@ -392,8 +405,8 @@ fn shut_all<F, D, H: Holder<F, D>>(
 {
     let mut files = Vec::new(rt.alloc());
     let mut done = Ok(());
-    for (name, conn) in held {
-        if let Err(fault) = shut_one(rt, name, conn, &mut files) {
+    for (name, open) in held {
+        if let Err(fault) = shut_one(rt, name, open.keep.into_connection(), &mut files) {
             done = Err(holder.refused(name, Failure::Store(fault)));
         }
     }
@@ -462,7 +475,7 @@ impl<'a, F: Folder + Databases> Stores for Files<'a, F> {
 
     ghost began = { λ was now call. HaveBegun F.did (events_of call) was.folder now.folder };
 
-    ghost saw = { λ files look. HasSeen F.saw files.folder look };
+    ghost saw = { λ files look. HasSeen F.saw F.lies files.folder look };
 
     ghost opens = { λ files seen lent. (image : Image) × F.lies files.folder seen.name.now image
         × IsStoreOf image lent.keep };
@@ -497,7 +510,7 @@ impl<'a, F: Folder + Databases> Stores for Files<'a, F> {
     }
 
     fn copy(&self, name: &str, journal: &str) -> Result<CopyKeep, Failure> {
-        let keep = copied(self.rt, name)?;
+        let keep = copied(self.rt.alloc(), &self.folder, name)?;
         if self.has(journal) {
             return Err(Failure::Unfinished);
         }

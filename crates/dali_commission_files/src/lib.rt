@@ -7,5 +7,5 @@ mod keeps;
 mod log;
 
 pub use databases::Databases;
-pub use files::Files;
+pub use files::{Files, Lying};
 pub use keeps::{CopyKeep, FileKeep};

@@ -9,8 +9,8 @@ pub returns-in_err-due : goal.returns-in_err-due
 returns-in_err-due g c = elim (c.match-open_all.branch) [
   | in-Ok w ↦ inr (
     w.deref.result.now,
-    read_held (λ (files : Files g.row.F.Denot) look. HasSeen g.F.Folder.saw files.folder look) c.args.self.now
-        (λ _ _. tt) c.args.names.now
+    read_held (λ (files : Files g.row.F.Denot) look. HasSeen g.F.Folder.saw g.F.Databases.lies files.folder look) c.args.self.now
+        (HasSeen g.F.Folder.saw g.F.Databases.lies) c.args.self.now.folder (λ _ _ it. it) c.args.names.now
         c.new-all.result.items c.open_all.new.all.items w.deref.result.now c.new-all.ensures.items w.deref.ensures.value
         w.in-Ok.ensures.read,
     w.take-due.new.stores,
@@ -27,8 +27,8 @@ pub returns-in_err-_files : goal.returns-in_err-_files
 returns-in_err-_files g c = elim (c.match-open_all.branch) [
   | in-Ok w ↦ inr (
     w.deref.result.now,
-    read_held (λ (files : Files g.row.F.Denot) look. HasSeen g.F.Folder.saw files.folder look) c.args.self.now
-        (λ _ _. tt) c.args.names.now
+    read_held (λ (files : Files g.row.F.Denot) look. HasSeen g.F.Folder.saw g.F.Databases.lies files.folder look) c.args.self.now
+        (HasSeen g.F.Folder.saw g.F.Databases.lies) c.args.self.now.folder (λ _ _ it. it) c.args.names.now
         c.new-all.result.items c.open_all.new.all.items w.deref.result.now c.new-all.ensures.items w.deref.ensures.value
         w.in-Ok.ensures.read,
     w.take-due.new.stores,
@@ -46,8 +46,8 @@ returns g c = elim (c.match-open_all.branch) [
   | in-Ok w ↦ let all =
       w.deref.result.now in inr (
         all,
-        read_held (λ (files : Files g.row.F.Denot) look. HasSeen g.F.Folder.saw files.folder look) c.args.self.now
-            (λ _ _. tt) c.args.names.now
+        read_held (λ (files : Files g.row.F.Denot) look. HasSeen g.F.Folder.saw g.F.Databases.lies files.folder look) c.args.self.now
+            (HasSeen g.F.Folder.saw g.F.Databases.lies) c.args.self.now.folder (λ _ _ it. it) c.args.names.now
             c.new-all.result.items c.open_all.new.all.items w.deref.result.now c.new-all.ensures.items w.deref.ensures.value
             w.in-Ok.ensures.read,
         c.match-open_all.self,
